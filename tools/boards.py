@@ -6,7 +6,7 @@ for, by its name or as a whole, so that of a large board only that is read which
 import bisect
 import re
 from sexpr import CONTROL, Node, nanometres, root_of, unescaped
-from shapes import FIRST_CORNER, Stance, arc, area, corners, figure, hole_shape, pad_shapes, plain_area, plain_strip, point, strip
+from shapes import FIRST_CORNER, Placement, arc, area, corners, figure, hole_shape, pad_shapes, plain_area, plain_strip, point, strip
 
 COPPER = ['F.Cu'] + ['In%d.Cu' % k for k in range(1, 31)] + ['B.Cu']
 COURTYARDS = ('F.CrtYd', 'B.CrtYd')
@@ -114,17 +114,17 @@ def layers_of(node, copper):
     return told
 
 
-def first_point(node, stance):
+def first_point(node, placement):
     """the point that a report gives of a graphic"""
     kind = node.head[3:]
     start, end = (point(node, head) for head in ('start', 'end'))
     if kind == 'circle':
         center = point(node, 'center')
-        return stance.put(*center) if center and end else (stance.x, stance.y)
+        return placement.put(*center) if center and end else (placement.x, placement.y)
     if kind in ('line', 'rect') and start and end or kind == 'arc' and start and end and point(node, 'mid'):
-        return stance.put(*start)
+        return placement.put(*start)
     ring = corners(node) if kind in ('poly', 'curve') else []
-    return stance.put(*ring[0]) if len(ring) > 2 else (stance.x, stance.y)
+    return placement.put(*ring[0]) if len(ring) > 2 else (placement.x, placement.y)
 
 
 class Board:
@@ -204,7 +204,7 @@ class Board:
         if reader:
             reader(node, unit)
         elif node.head in GRAPHICS:
-            self.graphic(node, unit, Stance(), None)
+            self.graphic(node, unit, Placement(), None)
 
     def net_of(self, node):
         """the name of the net of a list; none where it has none"""
@@ -228,7 +228,7 @@ class Board:
         def draw():
             if plain_one:
                 return [plain_strip(layer, 'track', width, plain_one.group(1, 2, 3, 4))]
-            points = Stance().draw([start, mid, end] if mid else [start, end])
+            points = Placement().draw([start, mid, end] if mid else [start, end])
             return [strip(layer, 'track', width, arc(*points) if mid else points)]
         item.draw = draw
 
@@ -247,7 +247,7 @@ class Board:
         layers = self.through(tuple(ends))
 
         def draw():
-            place = Stance().draw([at])
+            place = Placement().draw([at])
             return [strip('Vias', 'via', size, place)] + ([strip('Holes', 'via-hole', drill, place)] if drill else [])
         item = unit.take(Item('via', unit.name, node.at, at, layers=layers, draw=draw))
         item.net, item.uuid, item.width = net, unit.name, size
@@ -265,7 +265,7 @@ class Board:
             ring = corners(polygon) if polygon else []
             if len(ring) > 2:
                 item = unit.take(Item('area', node.value('name') or '', node.at, ring[0], layers=layers_of(node, self.copper),
-                                      draw=lambda: [area('Rule areas', 'area', Stance().draw(ring))]))
+                                      draw=lambda: [area('Rule areas', 'area', Placement().draw(ring))]))
                 item.uuid = unit.name
             return
         for part in node.lists():
@@ -287,60 +287,60 @@ class Board:
 
         def draw():
             shape = plain_area(layer, 'fill', node.text[points.at + 4:points.end]) if first else None
-            return [shape or area(layer, 'fill', Stance().draw(corners(node)))]
+            return [shape or area(layer, 'fill', Placement().draw(corners(node)))]
         item = unit.take(Item('zone', unit.name, node.at, position, layers=[layer], draw=draw))
         item.net, item.uuid = self.net_of(zone), unit.name
 
-    def graphic(self, node, unit, stance, body):
+    def graphic(self, node, unit, placement, body):
         """a graphic or a text, of the board or of a footprint"""
         layer = node.value('layer') or ''
         if node.head in TEXTS or node.head == 'dimension':
-            self.text_on(node, unit, layer, stance)
+            self.text_on(node, unit, layer, placement)
         elif layer in COPPER or layer == 'Edge.Cuts':
             word = 'edge' if layer == 'Edge.Cuts' else 'graphic'
-            item = unit.take(Item(word, name_of(node), node.at, first_point(node, stance), layers=[layer],
-                                  draw=lambda: figure(node, layer, word, stance, 0.05 if word == 'edge' else 0)[0]))
+            item = unit.take(Item(word, name_of(node), node.at, first_point(node, placement), layers=[layer],
+                                  draw=lambda: figure(node, layer, word, placement, 0.05 if word == 'edge' else 0)[0]))
             item.net, item.uuid = self.net_of(node), item.name
         elif layer in COURTYARDS and body is not None:
             body.append((node, layer))
 
-    def text_on(self, node, unit, layer, stance):
+    def text_on(self, node, unit, layer, placement):
         """a text on copper, which is read and not checked; it is drawn by its words, so it has no shapes"""
         if layer in COPPER:
             at = point(node, 'at') or point(node, 'start') or (0, 0)
             word = 'dimension' if node.head == 'dimension' else 'text'
-            item = unit.take(Item(word, name_of(node), node.at, stance.put(*at), layers=[layer]))
+            item = unit.take(Item(word, name_of(node), node.at, placement.put(*at), layers=[layer]))
             words = node.parts[1 if node.head.startswith('gr_') else 2] if len(node.parts) > 2 else ''
             item.reference, item.uuid = words if not isinstance(words, Node) else '', item.name
 
     def footprint(self, node, unit):
-        stance, reference, side = stance_of(node), reference_of(node), node.value('layer') or ''
+        placement, reference, side = placement_of(node), reference_of(node), node.value('layer') or ''
         outlines = []
 
         def draw():
-            return [shape for part, layer in outlines for shape in figure(part, layer, 'courtyard', stance, 0.05)[0] if not shape.fill]
-        body = unit.take(Item('footprint', reference, node.at, (stance.x, stance.y), layers=[side], draw=draw))
+            return [shape for part, layer in outlines for shape in figure(part, layer, 'courtyard', placement, 0.05)[0] if not shape.fill]
+        body = unit.take(Item('footprint', reference, node.at, (placement.x, placement.y), layers=[side], draw=draw))
         body.uuid = unit.name
         for part in node.lists():
             head = part.head
             if head == 'pad':
-                self.pad(part, unit, stance, reference)
+                self.pad(part, unit, placement, reference)
             elif head.startswith('fp_') or head == 'property':
-                self.graphic(part, unit, stance, outlines)
+                self.graphic(part, unit, placement, outlines)
             elif head == 'zone':
-                unit.take(Item('footprint-zone', reference, part.at, (stance.x, stance.y)))
+                unit.take(Item('footprint-zone', reference, part.at, (placement.x, placement.y)))
 
-    def pad(self, node, unit, stance, reference):
+    def pad(self, node, unit, placement, reference):
         at = node.lengths('at')
-        place = stance.put(*(at[:2] if len(at) > 1 else (0, 0)))
+        place = placement.put(*(at[:2] if len(at) > 1 else (0, 0)))
         kind = node.parts[2] if len(node.parts) > 2 else ''
-        own = Stance(*place, turn_of(node))
+        own = Placement(*place, turn_of(node))
         layers = [name for name in layers_of(node, self.copper) if name in COPPER]
 
         def draw():
             drill = node.first('drill')
             offset = (drill.lengths('offset') if drill else []) or [0, 0]
-            moved = Stance(*own.put(offset[0], offset[-1]), own.angle)
+            moved = Placement(*own.put(offset[0], offset[-1]), own.angle)
             through = [('Pads', 'pad')] if kind == 'thru_hole' and len(layers) > 1 else [(name, 'pad') for name in layers]
             return [shape for layer, sort in through for shape in pad_shapes(node, layer, sort, moved)] + hole_shape(node, own, kind)
         item = unit.take(Item('pad', node.parts[1] if len(node.parts) > 1 else '', node.at, place, reference, layers, draw))
@@ -350,10 +350,10 @@ class Board:
         """what is drawn of a unit on silk and fabrication layers, of which no report speaks"""
         node = unit.node
         if node.head == 'footprint':
-            stance = stance_of(node)
+            placement = placement_of(node)
             parts = [part for part in node.lists() if part.head in ('fp_line', 'fp_rect', 'fp_circle', 'fp_poly', 'fp_arc')]
         else:
-            stance, parts = Stance(), [node] if node.head in GRAPHICS else []
+            placement, parts = Placement(), [node] if node.head in GRAPHICS else []
         shapes = []
         for part in parts:
             line = LINE.match(part.text, part.at, part.end)
@@ -362,22 +362,22 @@ class Board:
                 continue
             try:
                 x, y, u, v, width = [float(word) for word in line.group(1, 2, 3, 4, 5 if line.group(5) else 8)]
-                shapes.append(strip(layer, 'drawing', max(width, 0.05), stance.draw([(x * 1e6, y * 1e6), (u * 1e6, v * 1e6)])))
+                shapes.append(strip(layer, 'drawing', max(width, 0.05), placement.draw([(x * 1e6, y * 1e6), (u * 1e6, v * 1e6)])))
             except (AttributeError, ValueError):
-                shapes += figure(part, layer, 'drawing', stance, 0.05)[0]
+                shapes += figure(part, layer, 'drawing', placement, 0.05)[0]
         return shapes
 
 
 def turn_of(node):
-    """the degrees of the posture of a footprint or a pad"""
+    """the degrees of the placement of a footprint or a pad"""
     found = node.first('at')
     angle = (found.atoms() + ['0', '0', '0'])[2] if found else '0'
     return (nanometres(angle) or 0) / 1e6
 
 
-def stance_of(node):
+def placement_of(node):
     at = node.lengths('at')
-    return Stance(*(at[:2] if len(at) > 1 else (0, 0)), turn_of(node))
+    return Placement(*(at[:2] if len(at) > 1 else (0, 0)), turn_of(node))
 
 
 def reference_of(node):

@@ -135,16 +135,16 @@ class Item:
         self.leaves = self.leaves or least is not None and value > FAR
         return value
 
-    def point(self, head, stance=None, drawn=True):
+    def point(self, head, placement=None, drawn=True):
         """the point behind a head; one that is not drawn may lie off the board"""
         found = self.element(head)
-        return self.spot(found, stance, drawn) if found else None
+        return self.spot(found, placement, drawn) if found else None
 
-    def spot(self, list_, stance=None, drawn=True):
+    def spot(self, list_, placement=None, drawn=True):
         x, y = self.length(list_, 1, 'x'), self.length(list_, 2, 'y')
         if x is None or y is None:
             return None
-        on_board = stance(x, y) if stance else (x, y)
+        on_board = placement(x, y) if placement else (x, y)
         self.leaves = self.leaves or drawn and max(map(abs, on_board)) > FAR
         return x, y
 
@@ -196,9 +196,9 @@ class Item:
         found = inner or self.node.first('width')
         return self.length(found, 1, 'width', 0) if found else 0
 
-    def corners(self, node=None, curved=False, stance=None):
+    def corners(self, node=None, curved=False, placement=None):
         points = self.element('pts', node)
-        plain = PLAIN_CORNERS.fullmatch(points.text, points.at, points.end) if points and not stance else None
+        plain = PLAIN_CORNERS.fullmatch(points.text, points.at, points.end) if points and not placement else None
         if plain and plain.group(1).count(b'(') > 2:
             # Fills have them by ten thousands.
             self.leaves = self.leaves or max(map(abs, map(float, plain_numbers(plain.group(1))))) > FAR / 1e6
@@ -207,24 +207,24 @@ class Item:
         count = arcs = 0
         for part in parts:
             if part.head == 'xy':
-                self.spot(part, stance)
+                self.spot(part, placement)
             elif part.head == 'arc' and not curved:
                 self.tell('Arc', part.at, 'an arc among corners', 'arc-corner')
             count, arcs = count + (part.head == 'xy'), arcs + (part.head == 'arc')
         if points and count < 3 and not (arcs and curved):
             self.tell('Missing', points.at, 'fewer than three corners', 'missing')
 
-    def figure(self, ground, stance=None):
+    def figure(self, ground, placement=None):
         """the elements of a graphic; in a courtyard neither width nor fill is read"""
         kind, court = self.node.head[3:], ground in ('F.CrtYd', 'B.CrtYd')
         if kind == 'poly':
-            self.corners(curved=court, stance=stance)
+            self.corners(curved=court, placement=placement)
         elif kind == 'circle':
-            center, end = self.point('center', stance), self.point('end', drawn=False)
+            center, end = self.point('center', placement), self.point('end', drawn=False)
             if center and end:
                 self.leaves = self.leaves or 2 * math.isqrt((center[0] - end[0])**2 + (center[1] - end[1])**2) > FAR
         else:
-            self.point('start', stance), self.point('end', stance)
+            self.point('start', placement), self.point('end', placement)
         if court:
             return False
         width = self.width()
@@ -242,7 +242,7 @@ def quarter(angle):
     return angle % 90_000_000 == 0
 
 
-def stance_of(at, angle):
+def placement_of(at, angle):
     """what puts a point that is relative to a footprint onto the board"""
     turn = math.radians(angle / 1e6)
     cos, sin = round(math.cos(turn)), round(math.sin(turn))
@@ -332,17 +332,17 @@ class Finder:
         item.close()
         self.count += 1
 
-    def graphic(self, item, stance):
+    def graphic(self, item, placement):
         """a graphic or a text, of the board or of a footprint"""
         head = item.node.head
         ground = item.ground()
-        if ground in ('F.CrtYd', 'B.CrtYd') and not stance:
+        if ground in ('F.CrtYd', 'B.CrtYd') and not placement:
             return
         if head in ('gr_arc', 'gr_curve', 'bezier', 'fp_arc', 'fp_curve'):
             if ground in ('copper', 'Edge.Cuts'):
                 item.tell('Arc', item.node.at, 'an arc or a curve on %s' % ground, 'arc-edge' if ground == 'Edge.Cuts' else 'arc-copper')
         elif head[3:] in ('line', 'rect', 'circle', 'poly') and ground:
-            ring = item.figure(ground, stance)
+            ring = item.figure(ground, placement)
             if ground == 'copper':
                 item.net()
             if ring:
@@ -415,14 +415,14 @@ class Finder:
             item.tell('Turned', item.node.at, 'a footprint turned by %s degrees' % degrees(angle), 'turned-footprint')
         self.reference(item)
         clearance = self.clearance(item)
-        stance = stance_of(at or (0, 0), angle or 0)
+        placement = placement_of(at or (0, 0), angle or 0)
         self.count += 1
         for part in item.node.lists():
             inner = Item(self, part)
             if part.head == 'pad':
-                self.pad(inner, stance, clearance)
+                self.pad(inner, placement, clearance)
             elif part.head in ('fp_line', 'fp_rect', 'fp_circle', 'fp_poly', 'fp_arc', 'fp_curve', 'fp_text', 'fp_text_box', 'property'):
-                self.graphic(inner, stance)
+                self.graphic(inner, placement)
                 court = part.value('layer') in ('F.CrtYd', 'B.CrtYd') and part.head != 'fp_line'
                 item.leaves = item.leaves or inner.leaves and court
             elif part.head == 'zone':
@@ -469,7 +469,7 @@ class Finder:
             item.length(offset, 1, 'x'), item.length(offset, 2, 'y')
         return sizes, offset is not None
 
-    def pad(self, item, stance, clearance):
+    def pad(self, item, placement, clearance):
         node = item.node
         item.atom(node, 1, 'number')
         kind, shape = item.atom(node, 2, 'type'), item.atom(node, 3, 'shape')
@@ -481,7 +481,7 @@ class Finder:
             item.tell('PadShape', node.at, 'a pad with corners cut off', 'pad-shape')
         at, angle = self.posture(item)
         if at:
-            item.leaves = item.leaves or max(map(abs, stance(*at))) > FAR
+            item.leaves = item.leaves or max(map(abs, placement(*at))) > FAR
         size = item.element('size')
         for number in (1, 2) if size else ():
             item.length(size, number, 'size', 0)

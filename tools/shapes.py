@@ -21,7 +21,7 @@ def pair(point):
     return number(point[0]) + ' ' + number(point[1])
 
 
-class Stance:
+class Placement:
     """a place on the board, in nanometres, and a turn in degrees against the clock, as seen with y downward"""
 
     def __init__(self, x=0, y=0, angle=0.0):
@@ -149,33 +149,33 @@ def width_of(node):
     return found[0] / 1e6 if found else 0
 
 
-def figure(node, layer, sort, stance, least=0.0):
+def figure(node, layer, sort, placement, least=0.0):
     """the shapes of a graphic, and its first point; least is the width of a line that has none"""
     kind = node.head[3:]
     filled = node.value('fill') in ('solid', 'yes')
     width = max(width_of(node), least)
     start, end, mid, center = (point(node, head) for head in ('start', 'end', 'mid', 'center'))
     if kind == 'line' and start and end:
-        points = stance.draw([start, end])
-        return [strip(layer, sort, width, points)], stance.put(*start)
+        points = placement.draw([start, end])
+        return [strip(layer, sort, width, points)], placement.put(*start)
     if kind == 'rect' and start and end:
-        ring = stance.draw([start, (end[0], start[1]), end, (start[0], end[1])])
+        ring = placement.draw([start, (end[0], start[1]), end, (start[0], end[1])])
         shapes = [strip(layer, sort, width, ring + ring[:1])] if width else []
-        return shapes + ([area(layer, sort, ring)] if filled else []), stance.put(*start)
+        return shapes + ([area(layer, sort, ring)] if filled else []), placement.put(*start)
     if kind == 'circle' and center and end:
-        middle = stance.draw([center])[0]
+        middle = placement.draw([center])[0]
         radius = math.hypot(end[0] - center[0], end[1] - center[1]) / 1e6
         shape = strip(layer, sort, 2 * radius + width, [middle]) if filled or not width else circle(layer, sort, middle, radius, width)
-        return [shape], stance.put(*center)
+        return [shape], placement.put(*center)
     if kind == 'arc' and start and end and mid:
-        return [strip(layer, sort, width, arc(*stance.draw([start, mid, end])))], stance.put(*start)
+        return [strip(layer, sort, width, arc(*placement.draw([start, mid, end])))], placement.put(*start)
     ring = corners(node)
     if kind in ('poly', 'curve') and len(ring) > 2:
-        drawn = stance.draw(ring)
+        drawn = placement.draw(ring)
         shapes = [strip(layer, sort, width, drawn + (drawn[:1] if kind == 'poly' else []))] if width or kind == 'curve' else []
         solid = kind == 'poly' and node.value('fill') not in ('none', 'no')
-        return shapes + ([area(layer, sort, drawn)] if solid else []), stance.put(*ring[0])
-    return [], (stance.x, stance.y)
+        return shapes + ([area(layer, sort, drawn)] if solid else []), placement.put(*ring[0])
+    return [], (placement.x, placement.y)
 
 
 def pad_outline(shape, wide, high, node):
@@ -195,28 +195,28 @@ def pad_outline(shape, wide, high, node):
     return ring
 
 
-def pad_shapes(node, layer, sort, stance):
+def pad_shapes(node, layer, sort, placement):
     """what is drawn of a pad on a layer"""
     shape = node.parts[3] if len(node.parts) > 3 else ''
     size = node.lengths('size') or [0]
     wide, high = size[0], size[-1]
     if shape == 'circle':
-        return [strip(layer, sort, wide / 1e6, stance.draw([(0, 0)]))]
+        return [strip(layer, sort, wide / 1e6, placement.draw([(0, 0)]))]
     if shape == 'oval':
         thin = min(wide, high)
         x, y = (wide - thin) / 2, (high - thin) / 2
-        return [strip(layer, sort, thin / 1e6, stance.draw([(-x, -y), (x, y)]))]
+        return [strip(layer, sort, thin / 1e6, placement.draw([(-x, -y), (x, y)]))]
     if shape == 'custom':
         options, primitives = node.first('options'), node.first('primitives')
         rect = options is not None and options.value('anchor') == 'rect'
-        shapes = [area(layer, sort, stance.draw(pad_outline('rect', wide, high, node)))] if rect else [strip(layer, sort, wide / 1e6, stance.draw([(0, 0)]))]
+        shapes = [area(layer, sort, placement.draw(pad_outline('rect', wide, high, node)))] if rect else [strip(layer, sort, wide / 1e6, placement.draw([(0, 0)]))]
         for part in primitives.lists() if primitives else []:
-            shapes += figure(part, layer, sort, stance)[0]
+            shapes += figure(part, layer, sort, placement)[0]
         return shapes
-    return [area(layer, sort, stance.draw(pad_outline(shape, wide, high, node)))]
+    return [area(layer, sort, placement.draw(pad_outline(shape, wide, high, node)))]
 
 
-def hole_shape(node, stance, kind):
+def hole_shape(node, placement, kind):
     """the hole of a pad"""
     drill = node.first('drill')
     sizes = [n for n in (nanometres(atom) for atom in drill.atoms()) if n] if drill else []
@@ -226,4 +226,4 @@ def hole_shape(node, stance, kind):
     thin = min(wide, high)
     x, y = (wide - thin) / 2, (high - thin) / 2
     sort = 'hole' if kind == 'thru_hole' else 'bare-hole'
-    return [strip('Holes', sort, thin / 1e6, stance.draw([(-x, -y), (x, y)] if x or y else [(0, 0)]))]
+    return [strip('Holes', sort, thin / 1e6, placement.draw([(-x, -y), (x, y)] if x or y else [(0, 0)]))]

@@ -149,7 +149,7 @@ fn via(k: u32, numbers: &mut Numbers, steps: u32) -> Seg {
     }
 }
 
-/// The same for three vias where the fill has four corners.
+/// Counts answers for vias near a fill: three vias for each four corners of the fill.
 pub fn vias(alloc: Global, corners: u32) -> anyhow::Result<u64> {
     let fill = first(corners).polygon(alloc)?;
     let mut numbers = Numbers { state: 7 };
@@ -179,7 +179,7 @@ pub fn gaps(alloc: Global, corners: u32) -> anyhow::Result<u64> {
     Ok(sum)
 }
 
-/// The same for two fills and many distances, where a fill comes first in the question and then second.
+/// Counts answers for two fills at many distances, where each fill comes first in the question and then second.
 fn both(a: &Poly, b: &Poly) -> u64 {
     let mut count: u64 = 0;
     for round in 0..16_u32 {

@@ -1,6 +1,6 @@
 //! What a whole run finds of a board, phase by phase: each with all that comes before it.
 
-ghost use Rattle.board_index.specs.Holding.{HoldsItems};
+ghost use Rattle.board_index.specs.IndexedItems.{HoldsItems};
 
 use board_index::index_of;
 use board_items::Board;

@@ -13,10 +13,10 @@ use Rattle.board_laws.proofs.Rest.{Entry, rises, found_at, contains_filter, sour
 use Rattle.part_read.specs.Ready.{AreReady, IsReady}
 use Rattle.pcb_read.specs.BoardOf.{with_items}
 use Rattle.board_edits.specs.declared.making.Made.{Made}
-use Rattle.board_edits.specs.Deeds.{PlainDeed, nothing, append}
-use Rattle.board_edits.specs.Fitting.{plain_deed, returned_board, DeedLeadsBack, GivesNothing, AddsNone}
+use Rattle.board_edits.specs.Operations.{PlainOperation, nothing, append}
+use Rattle.board_edits.specs.Fitting.{plain_operation, returned_board, IsInverseOperation, GivesNothing, AddsNone}
 use Rattle.board_edits.specs.Making.{ids_of, without_added, IsMade}
-use Rattle.board_edits.specs.Touched.{AreEdited, brought}
+use Rattle.board_edits.specs.TouchedItems.{AreEdited, brought}
 use Rattle.board_edits.proofs.EntryIds.{to_ids, rise_filter, ids_rise, not_given, came, all_new}
 
 abbrev left : ℕ → Entry → Bool
@@ -83,9 +83,9 @@ leads board unit items own below = sym (
     ∙ ap (λ (es : List Entry). record board { items = es; next_id = (with_items board items).next_id; next_unit = (with_items board items).next_unit }) (rest_left board unit items own ∙ all_left unit board.items (none_of unit board.items below))
     )
 
-leads_back : (board : PlainBoard) (unit : ℕ) (items : List Item) → All (λ (i : Item). i.unit ≡ unit) items → UnitsBelow unit board.items → DeedLeadsBack (without_added unit items) (with_items board items) board
-leads_back board unit [] own below = record { fits = tt; leads = refl }
-leads_back board unit (item ∷ items) own below = record { fits = tt; leads = leads board unit (item ∷ items) own below }
+is_inverse : (board : PlainBoard) (unit : ℕ) (items : List Item) → All (λ (i : Item). i.unit ≡ unit) items → UnitsBelow unit board.items → IsInverseOperation (without_added unit items) (with_items board items) board
+is_inverse board unit [] own below = record { fits = tt; leads = refl }
+is_inverse board unit (item ∷ items) own below = record { fits = tt; leads = leads board unit (item ∷ items) own below }
 
 adds_none : (unit : ℕ) (items : List Item) → AddsNone (without_added unit items)
 adds_none unit [] = tt
@@ -101,7 +101,7 @@ module _ (law : (board : PlainBoard) (items : List Item) (ids : List ℕ) → Is
   edits board items = subst (λ (new : PlainBoard). (ids : List ℕ) → IsSound board → IsSound new → ((e : Entry) → Contains new.items e → board.next_id ≤ e.0 → Contains ids e.0) → IsEdit board new ids) (folded board items) (law board items)
 
   module _ (old : PlainBoard) (items : List Item) (made : Made) (sound : IsSound old) (still : IsSound (with_items old items)) (ready : AreReady old old.next_unit items)
-      (back : plain_deed made.back ≡ without_added old.next_unit items) (given : made.ids.items ≡ ids_of (entries_of old.next_unit (with_items old items).items)) where
+      (back : plain_operation made.back ≡ without_added old.next_unit items) (given : made.ids.items ≡ ids_of (entries_of old.next_unit (with_items old items).items)) where
     own : All (λ (i : Item). i.unit ≡ old.next_unit) items
     own = All-weaker (IsReady old old.next_unit) (λ (i : Item). i.unit ≡ old.next_unit) (λ i r. r.of_unit) items ready.each
 
@@ -152,14 +152,14 @@ module _ (law : (board : PlainBoard) (items : List Item) (ids : List ℕ) → Is
     made_so : IsMade (append items) old (with_items old items) made
     made_so = record {
       after = refl;
-      leads = subst (λ (d : PlainDeed). DeedLeadsBack d (with_items old items) old) (sym back) (leads_back old old.next_unit items own sound.units);
+      leads = subst (λ (d : PlainOperation). IsInverseOperation d (with_items old items) old) (sym back) (is_inverse old old.next_unit items own sound.units);
       adds_none = subst AddsNone (sym back) (adds_none old.next_unit items);
       none = λ gives. back ∙ nothing_added old.next_unit items gives;
       edited = edited;
       known = brought refl (all_new old made.ids.items entries given all_fresh);
     }
 
-  pub added_made : (old new : PlainBoard) (items : List Item) (made : Made) → IsSound old → IsSound new → AreReady old old.next_unit items → new ≡ with_items old items → plain_deed made.back ≡ without_added old.next_unit items
+  pub added_made : (old new : PlainBoard) (items : List Item) (made : Made) → IsSound old → IsSound new → AreReady old old.next_unit items → new ≡ with_items old items → plain_operation made.back ≡ without_added old.next_unit items
       → made.ids.items ≡ ids_of (entries_of old.next_unit new.items) → IsMade (append items) old new made
   added_made old new items made sound still ready e back given =
       subst (λ (b : PlainBoard). IsMade (append items) old b made) (sym e)

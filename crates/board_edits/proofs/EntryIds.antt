@@ -6,12 +6,12 @@ use Rattle.std.proofs.lemmas.List.Elements.{All-nil, All-cons, All-weaker, All-m
 use Rattle.std.proofs.lemmas.List.Kept.{AllPairs-cons}
 use Rattle.board_items.specs.declared.item.Item.{Item}
 use Rattle.board_items.specs.Boards.{PlainBoard, Rise, item_at}
-use Rattle.board_items.specs.Parts.{parts_of}
+use Rattle.board_items.specs.ItemParts.{parts_of}
 use Rattle.board_items.proofs.Rising.{rise_ends, passed_over}
 use Rattle.board_laws.specs.Edits.{WasOrIs}
 use Rattle.board_laws.proofs.Rest.{Entry}
 use Rattle.board_edits.specs.Making.{ids_of}
-use Rattle.board_edits.specs.Touched.{ItemDiffers, added, removed}
+use Rattle.board_edits.specs.TouchedItems.{ItemDiffers, added, removed}
 
 -- ---- entries and their ids
 pub from_ids : (es : List Entry) (id : ℕ) → Contains (ids_of es) id → (e : Entry) × Contains es e × (e.0 ≡ id)

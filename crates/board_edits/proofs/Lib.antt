@@ -7,4 +7,4 @@ pub mod PutItems
 pub mod TakenUnits
 pub mod ShiftedParts
 pub mod MovedUnits
-pub mod FoundDeeds
+pub mod FoundOperations

@@ -12,15 +12,15 @@ use Rattle.geo_seg.specs.Shifts.{core_stays}
 use Rattle.board_items.specs.declared.parts.Part.{Part}
 use Rattle.board_items.specs.declared.item.Item.{Item}
 use Rattle.board_items.specs.Boards.{PlainBoard, IsSound, AllAdmitted, item_at, is_near, is_on_board, name_of, has_layers_of}
-use Rattle.board_items.specs.Parts.{parts_of, FirstHasPoints}
-use Rattle.board_items.specs.Moves.{moves, item_stays, unit_stays, IsShiftedItem, IsMovedEntry, IsMoved, HaveFirstPoints}
+use Rattle.board_items.specs.ItemParts.{parts_of, FirstHasPoints}
+use Rattle.board_items.specs.ItemMoves.{moves, item_stays, unit_stays, IsShiftedItem, IsMovedEntry, IsMoved, HaveFirstPoints}
 use Rattle.board_laws.specs.Edits.{IsEdit, WasOrIs}
 use Rattle.board_laws.proofs.Rest.{Entry, rises, found_at, contains_filter, source, passed as passed_test}
 use Rattle.board_edits.specs.declared.making.Made.{Made}
-use Rattle.board_edits.specs.Deeds.{PlainDeed, nothing, shift}
-use Rattle.board_edits.specs.Fitting.{plain_deed, returned_board, DeedLeadsBack, AddsNone}
+use Rattle.board_edits.specs.Operations.{PlainOperation, nothing, shift}
+use Rattle.board_edits.specs.Fitting.{plain_operation, returned_board, IsInverseOperation, AddsNone}
 use Rattle.board_edits.specs.Making.{ids_of, shifted_back, IsMade}
-use Rattle.board_edits.specs.Touched.{ids_touched, ItemDiffers, reshaped, AreEdited, touched_before}
+use Rattle.board_edits.specs.TouchedItems.{ids_touched, ItemDiffers, reshaped, AreEdited, touched_before}
 use Rattle.board_edits.proofs.EntryIds.{from_ids, to_ids, rise_filter, ids_rise}
 use Rattle.board_edits.proofs.MovedFar.{item_small}
 use Rattle.board_edits.proofs.Returned.{returned_same}
@@ -75,8 +75,8 @@ comes_back : (old new : PlainBoard) (unit : ℕ) (dx dy : ℤ) → IsMoved unit 
 comes_back old new unit dx dy moved = returned_same old new (ap (λ (b : PlainBoard). b.next_id) moved.others) (ap (λ (b : PlainBoard). b.next_unit) moved.others)
 
 module _ (back_law : (unit : ℕ) (dx dy : ℤ) (old new : PlainBoard) → IsMoved unit dx dy old new → IsMoved unit (neg_ℤ dx) (neg_ℤ dy) new old) where
-  leads_back : (old new : PlainBoard) (unit : ℕ) (dx dy : ℤ) → IsSound old → IsMoved unit dx dy old new → DeedLeadsBack (shift unit (neg_ℤ dx) (neg_ℤ dy)) new old
-  leads_back old new unit dx dy sound moved = record {
+  is_inverse : (old new : PlainBoard) (unit : ℕ) (dx dy : ℤ) → IsSound old → IsMoved unit dx dy old new → IsInverseOperation (shift unit (neg_ℤ dx) (neg_ℤ dy)) new old
+  is_inverse old new unit dx dy sound moved = record {
     fits = unit_stay unit (neg_ℤ dx) (neg_ℤ dy) old new.items old.items (back_law unit dx dy old new moved).items sound.admitted;
     leads = subst (λ (b : PlainBoard). IsMoved unit (neg_ℤ dx) (neg_ℤ dy) new b) (sym (comes_back old new unit dx dy moved)) (back_law unit dx dy old new moved);
   }
@@ -200,16 +200,16 @@ module _ (edit_law : (unit : ℕ) (dx dy : ℤ) (old new : PlainBoard) (ids : Li
         by false b x y g = rests g
 
     module _ (back_law : (unit : ℕ) (dx dy : ℤ) (old new : PlainBoard) → IsMoved unit dx dy old new → IsMoved unit (neg_ℤ dx) (neg_ℤ dy) new old) where
-      leads_by : (given : List ℕ) → given ≡ ids_touched old (shift unit dx dy) → DeedLeadsBack (shifted_back unit dx dy given) new old
+      leads_by : (given : List ℕ) → given ≡ ids_touched old (shift unit dx dy) → IsInverseOperation (shifted_back unit dx dy given) new old
       leads_by [] same = record { fits = tt; leads = comes_back old new unit dx dy moved ∙ sym (none_moved same) }
-      leads_by (id ∷ more) same = leads_back back_law old new unit dx dy sound moved
+      leads_by (id ∷ more) same = is_inverse back_law old new unit dx dy sound moved
 
   pub moved_made : ((unit : ℕ) (dx dy : ℤ) (old new : PlainBoard) → IsMoved unit dx dy old new → IsMoved unit (neg_ℤ dx) (neg_ℤ dy) new old)
       → (old new : PlainBoard) (unit : ℕ) (dx dy : ℤ) (made : Made) → IsSound old → IsSound new → IsMoved unit dx dy old new → HaveFirstPoints unit old.items
-      → plain_deed made.back ≡ shifted_back unit dx dy made.ids.items → made.ids.items ≡ ids_touched old (shift unit dx dy) → IsMade (shift unit dx dy) old new made
+      → plain_operation made.back ≡ shifted_back unit dx dy made.ids.items → made.ids.items ≡ ids_touched old (shift unit dx dy) → IsMade (shift unit dx dy) old new made
   moved_made back_law old new unit dx dy made sound still moved first back given = record {
     after = moved;
-    leads = subst (λ (d : PlainDeed). DeedLeadsBack d new old) (sym back) (leads_by old new unit dx dy made.ids.items sound still moved back_law made.ids.items given);
+    leads = subst (λ (d : PlainOperation). IsInverseOperation d new old) (sym back) (leads_by old new unit dx dy made.ids.items sound still moved back_law made.ids.items given);
     adds_none = subst AddsNone (sym back) (adds_none unit dx dy made.ids.items);
     none = λ gives. absurd gives;
     edited = edited old new unit dx dy made.ids.items sound still moved first given;

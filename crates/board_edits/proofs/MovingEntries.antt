@@ -3,7 +3,7 @@ use Rattle.std.proofs.Common.{◌≡◌, ◌∙◌, ap, refl, ℕ, Bool, true, f
 use Rattle.std.specs.declared.alloc.Global.{Global}
 use Rattle.board_items.specs.declared.item.Item.{Item}
 use Rattle.board_items.specs.Back.{entries_of}
-use Rattle.board_items.specs.Moves.{is_note, moves}
+use Rattle.board_items.specs.ItemMoves.{is_note, moves}
 use Rattle.board_edits.specs.Making.{ids_of}
 
 abbrev Entry : Type 0

@@ -11,10 +11,10 @@ use Rattle.board_items.specs.Units.{without_unit}
 use Rattle.board_laws.specs.Edits.{IsEdit}
 use Rattle.board_laws.proofs.Rest.{Entry, Under, same_from_elements, rises, found_at, contains_filter, source, passed}
 use Rattle.board_edits.specs.declared.making.Made.{Made}
-use Rattle.board_edits.specs.Deeds.{PlainDeed, put_back}
-use Rattle.board_edits.specs.Fitting.{plain_deed, returned_board, DeedLeadsBack, AddsNone}
+use Rattle.board_edits.specs.Operations.{PlainOperation, put_back}
+use Rattle.board_edits.specs.Fitting.{plain_operation, returned_board, IsInverseOperation, AddsNone}
 use Rattle.board_edits.specs.Making.{ids_of, without_put, IsMade}
-use Rattle.board_edits.specs.Touched.{brought}
+use Rattle.board_edits.specs.TouchedItems.{brought}
 use Rattle.board_edits.proofs.EntryIds.{to_ids, ids_rise, came, all_new}
 use Rattle.board_edits.proofs.Returned.{returned_same}
 
@@ -71,9 +71,9 @@ module _ (old new : PlainBoard) (sound : IsSound old) where
   stays : (items : List Entry) → IsPutBack items old new → returned_board old new ≡ old
   stays items back = returned_same old new (ap (λ (b : PlainBoard). b.next_id) back.others) (ap (λ (b : PlainBoard). b.next_unit) back.others)
 
-  leads_back : (items : List Entry) → FitsBack old items → IsPutBack items old new → DeedLeadsBack (without_put items) new old
-  leads_back [] fits back = record { fits = tt; leads = stays [] back ∙ sym (none_back back) }
-  leads_back (e ∷ es) fits back = record { fits = tt; leads = stays (e ∷ es) back ∙ sym (again e.1.unit (e ∷ es) own others back) }
+  is_inverse : (items : List Entry) → FitsBack old items → IsPutBack items old new → IsInverseOperation (without_put items) new old
+  is_inverse [] fits back = record { fits = tt; leads = stays [] back ∙ sym (none_back back) }
+  is_inverse (e ∷ es) fits back = record { fits = tt; leads = stays (e ∷ es) back ∙ sym (again e.1.unit (e ∷ es) own others back) }
     where
       head : e.1.unit ≡ fits.unit
       head = All-head (λ (x : Entry). x.1.unit ≡ fits.unit) e es fits.own
@@ -90,11 +90,11 @@ adds_none (e ∷ es) = tt
 
 -- ---- the edit
 module _ (law : (board new : PlainBoard) (items : List Entry) (ids : List ℕ) → IsSound board → IsSound new → IsPutBack items board new → All (λ (e : Entry). Contains ids e.0) items → IsEdit board new ids) where
-  pub put_made : (old new : PlainBoard) (items : List Entry) (made : Made) → IsSound old → IsSound new → FitsBack old items → IsPutBack items old new → plain_deed made.back ≡ without_put items → made.ids.items ≡ ids_of items
+  pub put_made : (old new : PlainBoard) (items : List Entry) (made : Made) → IsSound old → IsSound new → FitsBack old items → IsPutBack items old new → plain_operation made.back ≡ without_put items → made.ids.items ≡ ids_of items
       → IsMade (put_back items) old new made
   put_made old new items made sound still fits put back given = record {
     after = put;
-    leads = subst (λ (d : PlainDeed). DeedLeadsBack d new old) (sym back) (leads_back old new sound items fits put);
+    leads = subst (λ (d : PlainOperation). IsInverseOperation d new old) (sym back) (is_inverse old new sound items fits put);
     adds_none = subst AddsNone (sym back) (adds_none items);
     none = λ gives. absurd gives;
     edited = record {

@@ -11,8 +11,8 @@ use Rattle.geo_seg.specs.Shifts.{IsShiftedPoint, IsShiftedCore, is_coordinate, p
 use Rattle.board_items.specs.declared.parts.Part.{Part}
 use Rattle.board_items.specs.declared.item.Item.{Item}
 use Rattle.board_items.specs.Boards.{PlainBoard, AllAdmitted, is_near, is_on_board, name_of, has_layers_of}
-use Rattle.board_items.specs.Parts.{parts_of}
-use Rattle.board_items.specs.Moves.{AreShifted, IsShiftedItem, moves, item_stays, unit_stays, IsMovedEntry}
+use Rattle.board_items.specs.ItemParts.{parts_of}
+use Rattle.board_items.specs.ItemMoves.{AreShifted, IsShiftedItem, moves, item_stays, unit_stays, IsMovedEntry}
 use Rattle.board_laws.proofs.Rest.{Entry}
 use Rattle.board_items.proofs.MovedParts.{parts_zip}
 

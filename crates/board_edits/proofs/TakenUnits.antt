@@ -11,10 +11,10 @@ use Rattle.board_items.specs.Units.{without_unit}
 use Rattle.board_laws.specs.Edits.{IsEdit}
 use Rattle.board_laws.proofs.Rest.{Entry, Under, rises, found_at, in_list, contains_filter, source, passed}
 use Rattle.board_edits.specs.declared.making.Made.{Made}
-use Rattle.board_edits.specs.Deeds.{PlainDeed, put_back, take_out}
-use Rattle.board_edits.specs.Fitting.{plain_deed, DeedLeadsBack, AddsNone}
+use Rattle.board_edits.specs.Operations.{PlainOperation, put_back, take_out}
+use Rattle.board_edits.specs.Fitting.{plain_operation, IsInverseOperation, AddsNone}
 use Rattle.board_edits.specs.Making.{ids_of, IsMade}
-use Rattle.board_edits.specs.Touched.{ids_touched, touched_before}
+use Rattle.board_edits.specs.TouchedItems.{ids_touched, touched_before}
 use Rattle.board_edits.proofs.EntryIds.{to_ids, rise_filter, ids_rise, went}
 
 abbrev left : ℕ → Entry → Bool
@@ -93,16 +93,16 @@ module _ (old : PlainBoard) (unit : ℕ) (sound : IsSound old) where
     only = All-weaker (Contains old.items) (λ (e : Entry). Contains (filter (left unit) old.items) e ⊎ Contains own e) both old.items (All-contains_itself old.items);
   }
 
-  leads_back : DeedLeadsBack (put_back own) (without_unit old unit) old
-  leads_back = record { fits = fits; leads = record { merged = merged; others = refl } }
+  is_inverse : IsInverseOperation (put_back own) (without_unit old unit) old
+  is_inverse = record { fits = fits; leads = record { merged = merged; others = refl } }
 
 -- ---- the edit
 module _ (law : (board : PlainBoard) (unit : ℕ) (ids : List ℕ) → IsSound board → IsSound (without_unit board unit) → ((e : Entry) → Contains board.items e → nat_eq e.1.unit unit ≡ true → Contains ids e.0) → IsEdit board (without_unit board unit) ids) where
-  made_so : (old : PlainBoard) (unit : ℕ) (made : Made) → IsSound old → IsSound (without_unit old unit) → plain_deed made.back ≡ put_back (entries_of unit old.items) → made.ids.items ≡ ids_of (entries_of unit old.items)
+  made_so : (old : PlainBoard) (unit : ℕ) (made : Made) → IsSound old → IsSound (without_unit old unit) → plain_operation made.back ≡ put_back (entries_of unit old.items) → made.ids.items ≡ ids_of (entries_of unit old.items)
       → IsMade (take_out unit) old (without_unit old unit) made
   made_so old unit made sound still back given = record {
     after = refl;
-    leads = subst (λ (d : PlainDeed). DeedLeadsBack d (without_unit old unit) old) (sym back) (leads_back old unit sound);
+    leads = subst (λ (d : PlainOperation). IsInverseOperation d (without_unit old unit) old) (sym back) (is_inverse old unit sound);
     adds_none = subst AddsNone (sym back) tt;
     none = λ gives. absurd gives;
     edited = record {
@@ -119,7 +119,7 @@ module _ (law : (board : PlainBoard) (unit : ℕ) (ids : List ℕ) → IsSound b
       stood : (e : Entry) → Contains (entries_of unit old.items) e → item_at old.items e.0 ≡ Some e.1
       stood e c = found_at old.items e (rises 0 old.next_id old.items sound.ids) (source (is_of unit) old.items e c)
 
-  pub taken_made : (old new : PlainBoard) (unit : ℕ) (items : List Entry) (made : Made) → IsSound old → IsSound new → new ≡ without_unit old unit → items ≡ entries_of unit old.items → plain_deed made.back ≡ put_back items
+  pub taken_made : (old new : PlainBoard) (unit : ℕ) (items : List Entry) (made : Made) → IsSound old → IsSound new → new ≡ without_unit old unit → items ≡ entries_of unit old.items → plain_operation made.back ≡ put_back items
       → made.ids.items ≡ ids_touched old (take_out unit) → IsMade (take_out unit) old new made
   taken_made old new unit items made sound still e same back given =
       subst (λ (b : PlainBoard). IsMade (take_out unit) old b made) (sym e) (made_so old unit made sound (subst IsSound e still) (back ∙ ap (λ (es : List Entry). put_back es) same) given)

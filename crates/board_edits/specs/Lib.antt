@@ -1,5 +1,5 @@
-pub mod Deeds
+pub mod Operations
 pub mod Fitting
-pub mod Touched
+pub mod TouchedItems
 pub mod Making
 pub mod Planning

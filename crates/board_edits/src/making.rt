@@ -1,16 +1,16 @@
-//! Deeds that are done.
+//! Operations that are done.
 
 ghost use Rattle.std.specs.Prelude.{◌≡◌, ◌≢◌, ◌≤◌, true, [], map, IfOk, OnOk, unsigned_abs};
 ghost use Rattle.board_items.specs.Back.{kept_entry, FitsBack};
 ghost use Rattle.board_items.specs.Boards.{IsSound};
-ghost use Rattle.board_items.specs.Moves.{unit_stays};
+ghost use Rattle.board_items.specs.ItemMoves.{unit_stays};
 ghost use Rattle.part_read.specs.Ready.{AreReady};
-ghost use Rattle.board_edits.specs.Deeds.{After, nothing, append, put_back, take_out, shift};
-ghost use Rattle.board_edits.specs.Fitting.{plain_deed, DeedFits, DeedLeadsBack, GivesNothing, AddsNone};
+ghost use Rattle.board_edits.specs.Operations.{After, nothing, append, put_back, take_out, shift};
+ghost use Rattle.board_edits.specs.Fitting.{plain_operation, OperationFits, IsInverseOperation, GivesNothing, AddsNone};
 ghost use Rattle.board_edits.specs.Making.{ids_of, without_added, without_put, shifted_back, IsMade};
-ghost use Rattle.board_edits.specs.Touched.{ids_touched, AreEdited, AreKnown};
+ghost use Rattle.board_edits.specs.TouchedItems.{ids_touched, AreEdited, AreKnown};
 
-use crate::deed::Deed;
+use crate::operation::Operation;
 use crate::touching::ids_of_unit;
 use board_items::laws::{moved_back, moved_by_nothing, moved_nowhere};
 use board_items::{Board, Item, Kept, Nm};
@@ -18,23 +18,23 @@ use board_laws::laws;
 use pcb_read::add_items;
 use std::alloc::{AllocError, Global};
 
-/// What was done: the ids of the items that were added, put back, taken out or moved, rising, and the deed that leads back.
+/// What was done: the ids of the items that were added, put back, taken out or moved, rising, and the inverse operation.
 #[derive(Drop)]
 pub struct Made {
     pub ids: Vec<u32>,
-    pub back: Deed,
+    pub back: Operation,
 }
 
 // ---- items that are added
 
-/// The deed that takes out what is added in this unit.
-fn without_added(unit: u32, items: &[Item]) -> Deed
-    ensures { plain_deed result ≡ without_added unit items.now }
+/// The operation that takes out what is added in this unit.
+fn without_added(unit: u32, items: &[Item]) -> Operation
+    ensures { plain_operation result ≡ without_added unit items.now }
 {
     if items.is_empty() {
-        Deed::Nothing
+        Operation::Nothing
     } else {
-        Deed::TakeOut { unit }
+        Operation::TakeOut { unit }
     }
 }
 
@@ -68,13 +68,13 @@ fn ids_kept(alloc: Global, items: &[Kept]) -> Result<Vec<u32>, AllocError>
     Ok(ids)
 }
 
-/// The deed that takes them out again. They are of one unit.
-fn without_put(items: &[Kept]) -> Deed
-    ensures { plain_deed result ≡ without_put (map kept_entry items.now) }
+/// The operation that takes them out again. They are of one unit.
+fn without_put(items: &[Kept]) -> Operation
+    ensures { plain_operation result ≡ without_put (map kept_entry items.now) }
 {
     match items.first() {
-        None => Deed::Nothing,
-        Some(kept) => Deed::TakeOut {
+        None => Operation::Nothing,
+        Some(kept) => Operation::TakeOut {
             unit: kept.item.unit,
         },
     }
@@ -108,22 +108,22 @@ fn take_out(board: &mut Board, unit: u32, ids: Vec<u32>) -> Result<Made, AllocEr
     board.soundness();
     Ok(Made {
         ids,
-        back: Deed::PutBack { items },
+        back: Operation::PutBack { items },
     })
 }
 
 // ---- units that are moved
 
-/// The deed that moves the unit back. `ids` are those of its items that were moved, each from one place on the board to another; where
+/// The operation that moves the unit back. `ids` are those of its items that were moved, each from one place on the board to another; where
 /// there are none, nothing is moved back.
-fn shifted_back(unit: u32, dx: Nm, dy: Nm, ids: &[u32]) -> Deed
+fn shifted_back(unit: u32, dx: Nm, dy: Nm, ids: &[u32]) -> Operation
     requires { ids.now ≢ [] → (unsigned_abs dx ≤ 1000000000) × (unsigned_abs dy ≤ 1000000000) }
-    ensures { plain_deed result ≡ shifted_back unit dx dy ids.now }
+    ensures { plain_operation result ≡ shifted_back unit dx dy ids.now }
 {
     if ids.is_empty() {
-        return Deed::Nothing;
+        return Operation::Nothing;
     }
-    Deed::Shift {
+    Operation::Shift {
         unit,
         dx: -dx,
         dy: -dy,
@@ -147,50 +147,59 @@ fn shift(board: &mut Board, unit: u32, dx: Nm, dy: Nm, ids: Vec<u32>) -> Made
     Made { ids, back }
 }
 
-// ---- all deeds
+// ---- all operations
 
-/// Does the deed, with all that is said of it.
-fn done(alloc: Global, board: &mut Board, deed: Deed, touched: Vec<u32>) -> Result<Made, AllocError>
-    requires fits { DeedFits board.old (plain_deed deed) }
-    requires touched { touched.items ≡ ids_touched board.old (plain_deed deed) }
-    ensures { IfOk result (IsMade (plain_deed deed) board.old board.new) }
+/// Does the operation, with all that is said of it.
+fn done(
+    alloc: Global,
+    board: &mut Board,
+    operation: Operation,
+    touched: Vec<u32>,
+) -> Result<Made, AllocError>
+    requires fits { OperationFits board.old (plain_operation operation) }
+    requires touched { touched.items ≡ ids_touched board.old (plain_operation operation) }
+    ensures { IfOk result (IsMade (plain_operation operation) board.old board.new) }
 {
-    match deed {
-        Deed::Nothing => {
+    match operation {
+        Operation::Nothing => {
             board.soundness();
             Ok(Made {
                 ids: touched,
-                back: Deed::Nothing,
+                back: Operation::Nothing,
             })
         }
-        Deed::Append { items } => append(alloc, board, items),
-        Deed::PutBack { items } => put_back(alloc, board, items),
-        Deed::TakeOut { unit } => take_out(board, unit, touched),
-        Deed::Shift { unit, dx, dy } => Ok(shift(board, unit, dx, dy, touched)),
+        Operation::Append { items } => append(alloc, board, items),
+        Operation::PutBack { items } => put_back(alloc, board, items),
+        Operation::TakeOut { unit } => take_out(board, unit, touched),
+        Operation::Shift { unit, dx, dy } => Ok(shift(board, unit, dx, dy, touched)),
     }
 }
 
-/// Does the deed to a board that takes it. `touched` are the ids that [`ids_touched`](crate::ids_touched) gives of it. Only want of
-/// memory fails it, and the board may then hold a part of what was to be added. A deed that gives nothing leads back by nothing.
+/// Does the operation to a board that takes it. `touched` are the ids that [`ids_touched`](crate::ids_touched) gives of it. Only running
+/// out of memory fails it, and the board may then hold a part of what was to be added. An operation that gives nothing has nothing as its
+/// inverse.
 pub fn make(
     alloc: Global,
     board: &mut Board,
-    deed: Deed,
+    operation: Operation,
     touched: Vec<u32>,
 ) -> Result<Made, AllocError>
-    requires fits { DeedFits board.old (plain_deed deed) }
-    requires touched { touched.items ≡ ids_touched board.old (plain_deed deed) }
-    ensures after { OnOk result (After board.old (plain_deed deed) board.new) }
+    requires fits { OperationFits board.old (plain_operation operation) }
+    requires touched { touched.items ≡ ids_touched board.old (plain_operation operation) }
+    ensures after { OnOk result (After board.old (plain_operation operation) board.new) }
     ensures sound { IsSound board.old × IsSound board.new }
-    ensures back { IfOk result (λ made. DeedLeadsBack (plain_deed made.back) board.new board.old ×
-        AddsNone (plain_deed made.back)) }
-    ensures none { IfOk result (λ made. GivesNothing (plain_deed deed) → plain_deed made.back ≡ nothing) }
+    ensures back { IfOk result (λ made.
+        IsInverseOperation (plain_operation made.back) board.new board.old ×
+        AddsNone (plain_operation made.back)) }
+    ensures none { IfOk result (λ made. GivesNothing (plain_operation operation)
+        → plain_operation made.back ≡ nothing) }
     ensures edited { IfOk result (λ made. AreEdited board.old board.new made.ids.items) }
-    ensures known { IfOk result (λ made. AreKnown board.old (ids_touched board.old (plain_deed deed))
+    ensures known { IfOk result (λ made.
+        AreKnown board.old (ids_touched board.old (plain_operation operation))
         made.ids.items) }
 {
     board.soundness();
-    let made = done(alloc, board, deed, touched);
+    let made = done(alloc, board, operation, touched);
     board.soundness();
     made
 }

@@ -5,12 +5,12 @@ ghost use Rattle.plain_types.specs.Limits.{IsInText, IsReadable};
 ghost use Rattle.edit_script.specs.Commands.{plain_command, add};
 ghost use Rattle.edit_script.specs.Fits.{Fits};
 ghost use Rattle.board_edits.specs.declared.refusal.Refusal.{Refusal};
-ghost use Rattle.board_edits.specs.Deeds.{PlainDeed, Does, to_unit, take_out, shifted};
-ghost use Rattle.board_edits.specs.Fitting.{plain_deed, DeedFits};
+ghost use Rattle.board_edits.specs.Operations.{PlainOperation, Does, to_unit, take_out, shifted};
+ghost use Rattle.board_edits.specs.Fitting.{plain_operation, OperationFits};
 ghost use Rattle.board_edits.specs.Planning.{plain_answer, IsFound, refusal_in, unit_in};
 
-use crate::deed::Deed;
-use crate::laws::one_deed;
+use crate::laws::one_operation;
+use crate::operation::Operation;
 use crate::refusal::Refusal;
 use board_items::{Board, BoardError, Found, Nm};
 use edit_script::Command;
@@ -28,14 +28,14 @@ fn refused(error: BoardError) -> Refusal
 }
 
 /// The items of an added list.
-fn appended(alloc: Global, board: &Board, text: &[u8], at: u32) -> Result<Deed, Refusal>
+fn appended(alloc: Global, board: &Board, text: &[u8], at: u32) -> Result<Operation, Refusal>
     requires text { IsReadable text.now }
     requires at { IsInText at }
     ensures found { IsFound board.now (add text.now at) result }
-    ensures fits { IfOk result (λ deed. DeedFits board.now (plain_deed deed)) }
+    ensures fits { IfOk result (λ operation. OperationFits board.now (plain_operation operation)) }
 {
     match read_item(alloc, text, at, board, board.next_unit()) {
-        Ok(items) => Ok(Deed::Append { items }),
+        Ok(items) => Ok(Operation::Append { items }),
         Err(error) => Err(refused(error)),
     }
 }
@@ -52,44 +52,49 @@ fn unit_in(found: Found) -> Result<u32, Refusal>
     }
 }
 
-/// The deed that takes the unit out, or why there is none.
-fn taken_out(found: Found) -> Result<Deed, Refusal>
+/// The operation that takes the unit out, or why there is none.
+fn taken_out(found: Found) -> Result<Operation, Refusal>
     ensures answer { plain_answer result ≡ to_unit found (λ unit. Ok (take_out unit)) }
 {
     let unit = unit_in(found)?;
-    Ok(Deed::TakeOut { unit })
+    Ok(Operation::TakeOut { unit })
 }
 
-/// The deed that moves the unit, where all of it stays on the board, or why there is none. `at` is the place of the command.
-fn shifted(board: &Board, found: Found, dx: Nm, dy: Nm, at: u32) -> Result<Deed, Refusal>
+/// The operation that moves the unit, where all of it stays on the board, or why there is none. `at` is the place of the command.
+fn shifted(board: &Board, found: Found, dx: Nm, dy: Nm, at: u32) -> Result<Operation, Refusal>
     ensures answer { plain_answer result ≡ to_unit found (shifted board.now dx dy at) }
-    ensures fits { IfOk result (λ deed. DeedFits board.now (plain_deed deed)) }
+    ensures fits { IfOk result (λ operation. OperationFits board.now (plain_operation operation)) }
 {
     let unit = unit_in(found)?;
     if board.unit_stays(unit, dx, dy) {
-        Ok(Deed::Shift { unit, dx, dy })
+        Ok(Operation::Shift { unit, dx, dy })
     } else {
         Err(Refusal::Item(BoardError::OutOfBoard { at }))
     }
 }
 
 /// What the command does to the board, or why it is refused. The board stays as it is. The refusals are those of [`Refusal`], exactly
-/// where `specs/Deeds` has them; want of memory alone is free.
-pub fn deed_of(alloc: Global, board: &Board, command: &Command<'_>) -> Result<Deed, Refusal>
+/// where `specs/Operations` has them; running out of memory alone is free.
+pub fn operation_of(
+    alloc: Global,
+    board: &Board,
+    command: &Command<'_>,
+) -> Result<Operation, Refusal>
     requires { Fits (plain_command command.now) }
-    ensures does { MatchResult result (λ deed. Does board.now (plain_command command.now)
-        (Ok (plain_deed deed))) (λ why. (why ≡ Refusal.OutOfMemory) ⊎
+    ensures does { MatchResult result (λ operation. Does board.now (plain_command command.now)
+        (Ok (plain_operation operation))) (λ why. (why ≡ Refusal.OutOfMemory) ⊎
         Does board.now (plain_command command.now) (Err why)) }
-    ensures only { (answer : Result PlainDeed Refusal) → Does board.now (plain_command command.now) answer →
-        MatchResult result (λ deed. answer ≡ Ok (plain_deed deed))
+    ensures only { (answer : Result PlainOperation Refusal)
+        → Does board.now (plain_command command.now) answer →
+        MatchResult result (λ operation. answer ≡ Ok (plain_operation operation))
         (λ why. (why ≡ Refusal.OutOfMemory) ⊎ (answer ≡ Err why)) }
-    ensures fits { IfOk result (λ deed. DeedFits board.now (plain_deed deed)) }
+    ensures fits { IfOk result (λ operation. OperationFits board.now (plain_operation operation)) }
 {
-    one_deed();
+    one_operation();
     match command {
         Command::Add { text, at } => appended(alloc, board, text, *at),
         Command::Delete { name, .. } => taken_out(board.find(name)),
         Command::Move { name, dx, dy, at } => shifted(board, board.find(name), *dx, *dy, *at),
-        Command::Rules { .. } | Command::Again { .. } => Ok(Deed::Nothing),
+        Command::Rules { .. } | Command::Again { .. } => Ok(Operation::Nothing),
     }
 }

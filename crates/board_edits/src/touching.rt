@@ -1,15 +1,15 @@
-//! The items that a deed touches.
+//! The items that an operation touches.
 
 ghost use Rattle.std.specs.Prelude.{◌≡◌, not, filter, IfOk};
 ghost use Rattle.board_items.specs.Back.{entries_of};
-ghost use Rattle.board_items.specs.Moves.{is_note, moves};
-ghost use Rattle.board_items.specs.Walks.{unit_left};
-ghost use Rattle.board_edits.specs.Deeds.{shift};
-ghost use Rattle.board_edits.specs.Fitting.{plain_deed};
+ghost use Rattle.board_items.specs.ItemMoves.{is_note, moves};
+ghost use Rattle.board_items.specs.BoardIterators.{unit_left};
+ghost use Rattle.board_edits.specs.Operations.{shift};
+ghost use Rattle.board_edits.specs.Fitting.{plain_operation};
 ghost use Rattle.board_edits.specs.Making.{ids_of};
-ghost use Rattle.board_edits.specs.Touched.{ids_touched};
+ghost use Rattle.board_edits.specs.TouchedItems.{ids_touched};
 
-use crate::deed::Deed;
+use crate::operation::Operation;
 use board_items::{Board, Item, Nm, UnitIter, What};
 use std::alloc::{AllocError, Global};
 
@@ -76,14 +76,21 @@ fn shifted_ids(
     moving_of_unit(alloc, board, unit)
 }
 
-/// The ids of the items of the board that the deed takes out or moves, rising. A move by nothing moves none. Only want of memory
-/// refuses it.
-pub fn ids_touched(alloc: Global, board: &Board, deed: &Deed) -> Result<Vec<u32>, AllocError>
-    ensures { IfOk result (λ ids. ids.items ≡ ids_touched board.now (plain_deed deed.now)) }
+/// The ids of the items of the board that the operation takes out or moves, rising. A move by nothing moves none. Only running out of
+/// memory refuses it.
+pub fn ids_touched(
+    alloc: Global,
+    board: &Board,
+    operation: &Operation,
+) -> Result<Vec<u32>, AllocError>
+    ensures { IfOk result (λ ids.
+        ids.items ≡ ids_touched board.now (plain_operation operation.now)) }
 {
-    match deed {
-        Deed::TakeOut { unit } => ids_of_unit(alloc, board, *unit),
-        Deed::Shift { unit, dx, dy } => shifted_ids(alloc, board, *unit, *dx, *dy),
-        Deed::Nothing | Deed::Append { .. } | Deed::PutBack { .. } => Ok(Vec::new(alloc)),
+    match operation {
+        Operation::TakeOut { unit } => ids_of_unit(alloc, board, *unit),
+        Operation::Shift { unit, dx, dy } => shifted_ids(alloc, board, *unit, *dx, *dy),
+        Operation::Nothing | Operation::Append { .. } | Operation::PutBack { .. } => Ok(Vec::new(
+            alloc,
+        )),
     }
 }

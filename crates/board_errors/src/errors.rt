@@ -22,13 +22,13 @@ pub enum ItemError {
 }
 
 impl HasReason for ItemError {
-    ghost use Rattle.board_errors.specs.Reasons.{item_reason};
+    ghost use Rattle.board_errors.specs.BoardReasons.{item_reason};
 
     ghost reason_of = { item_reason };
 
     ghost depth = { 1 };
 
-    /// What it is called and its number. It has no place: an item that is not taken stands in no text. Want of memory has
+    /// What it is called and its number. It has no place: an item that is not taken stands in no text. Running out of memory has
     /// no number, which is written 0.
     fn reason(&self) -> Reason {
         match self {
@@ -44,7 +44,7 @@ impl HasReason for ItemError {
 impl fmt::Display for ItemError {
     ghost use Rattle.std.specs.Prelude.{Some};
     ghost use Rattle.plain_types.specs.Reasons.{written};
-    ghost use Rattle.board_errors.specs.Reasons.{item_reason};
+    ghost use Rattle.board_errors.specs.BoardReasons.{item_reason};
 
     ghost output = { λ e. Some (written (item_reason e)) };
 
@@ -114,13 +114,13 @@ pub enum BoardError {
 }
 
 impl HasReason for BoardError {
-    ghost use Rattle.board_errors.specs.Reasons.{board_reason};
+    ghost use Rattle.board_errors.specs.BoardReasons.{board_reason};
 
     ghost reason_of = { board_reason };
 
     ghost depth = { 2 };
 
-    /// What it is called, its number and its byte of the text. Want of memory has no number, which is written 0, and no
+    /// What it is called, its number and its byte of the text. Running out of memory has no number, which is written 0, and no
     /// place.
     fn reason(&self) -> Reason {
         match self {
@@ -146,7 +146,7 @@ impl HasReason for BoardError {
 impl fmt::Display for BoardError {
     ghost use Rattle.std.specs.Prelude.{Some};
     ghost use Rattle.plain_types.specs.Reasons.{written};
-    ghost use Rattle.board_errors.specs.Reasons.{board_reason};
+    ghost use Rattle.board_errors.specs.BoardReasons.{board_reason};
 
     ghost output = { λ e. Some (written (board_reason e)) };
 

@@ -5,11 +5,11 @@ use Rattle.std.proofs.lemmas.List.Elements.{All-weaker, All-filter, filter_passe
 use Rattle.std.proofs.lemmas.List.Kept.{IsStrictlyIncreasing-filter}
 use Rattle.geo_seg.specs.declared.boxes.Bounds.{Bounds}
 use Rattle.board_items.specs.Boards.{PlainBoard}
-use Rattle.board_items.specs.Parts.{parts_of}
+use Rattle.board_items.specs.ItemParts.{parts_of}
 use Rattle.box_index.specs.declared.entry.Entry.{Entry}
 use Rattle.box_index.specs.Tiles.{PlainIndex, is_in, is_held, held_of, dirty_of, numbers_below, tile_count}
 use Rattle.box_index.proofs.Buckets.{contains_filter}
-use Rattle.board_index.specs.Holding.{IsEntryOf, IsIndexOfItems}
+use Rattle.board_index.specs.IndexedItems.{IsEntryOf, IsIndexOfItems}
 use Rattle.board_index.specs.TilesHeld.{HoldsItem, AreTilesHeld}
 use Rattle.board_index.proofs.Numbers.{low_numbers, all_rise, has_number}
 use Rattle.board_index.proofs.Bounds.{one_box, has_parts}

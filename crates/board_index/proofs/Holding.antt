@@ -5,12 +5,12 @@ use Rattle.std.proofs.lemmas.List.Elements.{All-nil, All-cons, All-append, All-f
 use Rattle.geo_seg.specs.declared.boxes.Bounds.{Bounds}
 use Rattle.board_items.specs.declared.item.Item.{Item}
 use Rattle.board_items.specs.Boards.{PlainBoard, Rise, IsSound, item_at}
-use Rattle.board_items.specs.Parts.{parts_of}
+use Rattle.board_items.specs.ItemParts.{parts_of}
 use Rattle.board_items.specs.Extents.{AreBoundsOf}
 use Rattle.box_index.specs.declared.entry.Entry.{Entry}
 use Rattle.box_index.specs.Tiles.{PlainIndex, IsAbsent, placed}
 use Rattle.box_index.proofs.Buckets.{contains_filter}
-use Rattle.board_index.specs.Holding.{IsEntryOf, HasEntry, IsIndexOfItems}
+use Rattle.board_index.specs.IndexedItems.{IsEntryOf, HasEntry, IsIndexOfItems}
 use Rattle.board_index.proofs.Bounds.{no_box}
 
 -- the index holds all items but those that are left, whose ids are above all in it, and nothing else

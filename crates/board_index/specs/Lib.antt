@@ -1,2 +1,2 @@
-pub mod Holding
+pub mod IndexedItems
 pub mod TilesHeld

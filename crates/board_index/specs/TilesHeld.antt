@@ -5,7 +5,7 @@ use Rattle.geo_seg.specs.Boxes.{widened}
 use Rattle.board_items.specs.Boards.{PlainBoard}
 use Rattle.box_index.specs.declared.entry.Entry.{Entry}
 use Rattle.box_index.specs.Tiles.{meets_tile, tile_count}
-use Rattle.board_index.specs.Holding.{IsEntryOf}
+use Rattle.board_index.specs.IndexedItems.{IsEntryOf}
 
 -- the entry is that of an item of the board, and its bounds, in half nanometres, meet the tile where they are widened by the
 -- reach, in nanometres

@@ -3,11 +3,11 @@ use Rattle.std.proofs.Common.{◌≡◌, ℕ, ◌+◌, ◌<◌, max, true, List,
 use Rattle.std.specs.declared.alloc.Global.{Global}
 use Rattle.board_items.specs.declared.item.Item.{Item}
 use Rattle.board_items.specs.Boards.{PlainBoard, with_item, is_admitted, marks_of}
-use Rattle.board_items.specs.Moves.{is_note}
-use Rattle.board_items.specs.Notes.{notes_of}
-use Rattle.board_items.specs.Kept.{IsNetAt, IsKept}
-use Rattle.board_items.specs.Refusals.{room_of}
-use Rattle.board_items.specs.Slots.{present}
+use Rattle.board_items.specs.ItemMoves.{is_note}
+use Rattle.board_items.specs.ItemNotes.{notes_of}
+use Rattle.board_items.specs.BoardCaches.{IsNetAt, IsKept}
+use Rattle.board_items.specs.ItemRefusals.{capacity_of}
+use Rattle.board_items.specs.ItemSlots.{present}
 use Rattle.board_items.proofs.Growing.{sound_added}
 use Rattle.board_items.proofs.Rising.{ids_where-append}
 use Rattle.board_items.proofs.NetIds.{added_lists}
@@ -31,13 +31,13 @@ pub board_added : (b : PlainBoard) (item : Item) (slots more : List (Option Item
 board_added b item slots more unit items next pushed u = added_board b item slots more items next pushed unit u
 
 pub kept_added : (b : PlainBoard) (item : Item) (id next_unit : ℕ) (marks more : List ℕ) (lists : List (Vec ℕ Global)) (place : ℕ) (d old v : Vec ℕ Global) (live many : ℕ) (slots others : List (Option Item)) → IsKept b marks lists live
-    → is_admitted b item ≡ true → 0 < room_of b → item.unit < 4294967295 → b.items ≡ present 0 slots → b.next_id ≡ length slots → id ≡ b.next_id → others ≡ slots ++ Some item ∷ []
+    → is_admitted b item ≡ true → 0 < capacity_of b → item.unit < 4294967295 → b.items ≡ present 0 slots → b.next_id ≡ length slots → id ≡ b.next_id → others ≡ slots ++ Some item ∷ []
     → more ≡ marks ++ marks_of ((id, item) ∷ []) → next_unit ≡ max b.next_unit (item.unit + 1) → IsNetAt item.net b.nets place → old ≡ get_or lists place d → v.items ≡ old.items ++ id ∷ []
     → many ≡ live + 1
     → IsKept (record b { items = present 0 others; next_id = length others; next_unit = next_unit }) more (set lists place v) many
-kept_added b item id next_unit marks more lists place d old v live many slots others k may room unit items next same pushed m u at o f l =
+kept_added b item id next_unit marks more lists place d old v live many slots others k may spare_capacity unit items next same pushed m u at o f l =
     let e : present 0 others ≡ b.items ++ (b.next_id, item) ∷ [] = now b item slots others items next pushed in
-    let both = sound_added b item (present 0 others) marks more next_unit k.sound k.marks may room unit e (m ∙ ap (λ (n : ℕ). marks ++ marks_of ((n, item) ∷ [])) same) u in
+    let both = sound_added b item (present 0 others) marks more next_unit k.sound k.marks may spare_capacity unit e (m ∙ ap (λ (n : ℕ). marks ++ marks_of ((n, item) ∷ [])) same) u in
     subst (λ (n : ℕ). IsKept (record b { items = present 0 others; next_id = n; next_unit = next_unit }) more (set lists place v) many) (sym (longer b item slots others items next pushed)) (record {
       sound = both.0;
       marks = both.1;

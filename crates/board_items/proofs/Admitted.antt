@@ -10,9 +10,9 @@ use Rattle.copper_layers.specs.declared.set.LayerSet.{LayerSet}
 use Rattle.board_items.specs.declared.parts.Part.{Part}
 use Rattle.board_items.specs.declared.item.Item.{Item}
 use Rattle.copper_layers.specs.Layers.{is_within}
-use Rattle.board_items.specs.Parts.{parts_of}
+use Rattle.board_items.specs.ItemParts.{parts_of}
 use Rattle.board_items.specs.Boards.{PlainBoard, name_of, item_at, is_on_board, has_layers_of, is_admitted, AllAdmitted}
-use Rattle.board_items.specs.Refusals.{refusal_of}
+use Rattle.board_items.specs.ItemRefusals.{refusal_of}
 
 -- ---- lists of items
 pub all_kept : (b c : PlainBoard) → ((item : Item) → is_admitted b item ≡ true → is_admitted c item ≡ true)

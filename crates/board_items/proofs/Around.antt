@@ -46,9 +46,9 @@ all_added : (b : Bounds) (ps : List Part) (p : Part) → AllLieIn b ps → LiesI
 all_added b [] p h k = (k, tt)
 all_added b (q ∷ qs) p h k = (h.0, all_added b qs p h.1 k)
 
-all_front : (b : Bounds) (ps : List Part) (p : Part) → AllLieIn b (ps ++ p ∷ []) → AllLieIn b ps
-all_front b [] p h = tt
-all_front b (q ∷ qs) p h = (h.0, all_front b qs p h.1)
+all_prefix : (b : Bounds) (ps : List Part) (p : Part) → AllLieIn b (ps ++ p ∷ []) → AllLieIn b ps
+all_prefix b [] p h = tt
+all_prefix b (q ∷ qs) p h = (h.0, all_prefix b qs p h.1)
 
 last_lies : (b : Bounds) (ps : List Part) (p : Part) → AllLieIn b (ps ++ p ∷ []) → LiesIn b p
 last_lies b [] p h = h.0
@@ -70,7 +70,7 @@ pub one_more : (ps : List Part) (p : Part) (box b r : Bounds) → IsBoundsOf p.s
 one_more [] p box b r own first second least h = absurd (cc)
 one_more (q ∷ qs) p box b r own first second least h = record {
   holds = all_added r (q ∷ qs) p (all_wider box r first (q ∷ qs) h.holds) (record { bounds = b; own = own; inside = second });
-  least = λ other all. least other (h.least other (all_front other (q ∷ qs) p all)) (within_lies b other p own (last_lies other (q ∷ qs) p all));
+  least = λ other all. least other (h.least other (all_prefix other (q ∷ qs) p all)) (within_lies b other p own (last_lies other (q ∷ qs) p all));
 }
 
 -- ---- lists of parts

@@ -6,8 +6,8 @@ use Rattle.std.specs.declared.alloc.Global.{Global}
 use Rattle.copper_layers.specs.declared.set.LayerSet.{LayerSet}
 use Rattle.board_items.specs.declared.item.Item.{Item}
 use Rattle.board_items.specs.Boards.{PlainBoard, AreDistinct}
-use Rattle.board_items.specs.Kept.{AreIdsOf, IsWholeBoard}
-use Rattle.board_items.specs.Slots.{present}
+use Rattle.board_items.specs.BoardCaches.{AreIdsOf, IsWholeBoard}
+use Rattle.board_items.specs.ItemSlots.{present}
 use Rattle.board_items.proofs.Nets.{absent_parts}
 
 -- ---- the ids of nets

@@ -3,7 +3,7 @@ use Rattle.std.proofs.Common.{◌≡◌, ℕ, ◌+◌, ◌-◌, ◌<◌, min, ma
 use Rattle.board_items.specs.declared.item.Item.{Item}
 use Rattle.board_items.specs.Boards.{PlainBoard, IsSound, Rise, UnitsBelow, AllAdmitted, name_of, with_net, is_admitted, marks_of}
 use Rattle.copper_layers.specs.declared.set.LayerSet.{LayerSet}
-use Rattle.board_items.specs.Refusals.{room_of}
+use Rattle.board_items.specs.ItemRefusals.{capacity_of}
 use Rattle.board_items.proofs.Rising.{rise_added, units_added, marks-append}
 use Rattle.board_items.proofs.Nets.{still_first, distinct_added}
 use Rattle.board_items.proofs.Admitted.{all_kept, all_added, still_declared, admitted_declared, admitted_layered}
@@ -45,15 +45,15 @@ sound_layered b copper s e = record {
   admitted = all_kept b (record b { copper = copper }) (admitted_layered b copper e) b.items s.admitted;
 }
 
-room_left : (n k : ℕ) → 0 < min (200000 - n) (4294967295 - k) → (n < 200000) × (k < 4294967295)
-room_left n k h = (grind arith, grind arith)
+capacity_left : (n k : ℕ) → 0 < min (200000 - n) (4294967295 - k) → (n < 200000) × (k < 4294967295)
+capacity_left n k h = (grind arith, grind arith)
 
 pub sound_added : (b : PlainBoard) (item : Item) (items : List (ℕ × Item)) (marks more : List ℕ) (next_unit : ℕ)
-    → IsSound b → marks ≡ marks_of b.items → is_admitted b item ≡ true → 0 < room_of b → item.unit < 4294967295
+    → IsSound b → marks ≡ marks_of b.items → is_admitted b item ≡ true → 0 < capacity_of b → item.unit < 4294967295
     → items ≡ b.items ++ (b.next_id, item) ∷ [] → more ≡ marks ++ marks_of ((b.next_id, item) ∷ []) → next_unit ≡ max b.next_unit (item.unit + 1)
     → IsSound (record { copper = b.copper; nets = b.nets; items = items; next_id = b.next_id + 1; next_unit = next_unit }) × (more ≡ marks_of items)
-sound_added b item items marks more next_unit s m may room unit e f u =
-    let left = room_left (length b.items) b.next_id room in (
+sound_added b item items marks more next_unit s m may spare_capacity unit e f u =
+    let left = capacity_left (length b.items) b.next_id spare_capacity in (
       record {
         ids = subst (λ (xs : List (ℕ × Item)). Rise 0 (b.next_id + 1) xs) (sym e) (rise_added 0 b.next_id b.items item s.ids);
         units = subst (λ (xs : List (ℕ × Item)). UnitsBelow next_unit xs) (sym e)

@@ -7,8 +7,8 @@ use Rattle.geo_seg.specs.declared.shapes.Core.TheVariants.{Line, Area as Polygon
 use Rattle.geo_seg.specs.Shifts.{IsShiftedPoint, IsShiftedCore}
 use Rattle.board_items.specs.declared.parts.Part.{Part}
 use Rattle.board_items.specs.declared.item.Item.{Item}
-use Rattle.board_items.specs.Parts.{parts_of, HasPoints, FirstHasPoints}
-use Rattle.board_items.specs.Moves.{AreShifted, IsShiftedItem}
+use Rattle.board_items.specs.ItemParts.{parts_of, HasPoints, FirstHasPoints}
+use Rattle.board_items.specs.ItemMoves.{AreShifted, IsShiftedItem}
 use Rattle.board_items.proofs.MovedParts.{parts_zip}
 
 -- ---- the first part of two lists

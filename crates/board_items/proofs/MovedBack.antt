@@ -13,7 +13,7 @@ use Rattle.board_items.specs.declared.item.What.{What}
 use Rattle.board_items.specs.declared.item.What.TheVariants.{Track, Via, Pad, Graphic, Fill, Edge, Area, Body, Note}
 use Rattle.board_items.specs.declared.item.Item.{Item}
 use Rattle.board_items.specs.Boards.{PlainBoard}
-use Rattle.board_items.specs.Moves.{IsShiftedPart, AreShifted, HoleIsShifted, KindIsShifted, IsShiftedItem, is_note, moves, IsMovedEntry, IsMoved}
+use Rattle.board_items.specs.ItemMoves.{IsShiftedPart, AreShifted, HoleIsShifted, KindIsShifted, IsShiftedItem, is_note, moves, IsMovedEntry, IsMoved}
 
 back_by : (p q d : ℤ) → q ≡ p +ℤ d → p ≡ q +ℤ neg_ℤ d
 back_by p q d e = omega (arith, ints)

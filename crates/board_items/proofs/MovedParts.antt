@@ -5,9 +5,9 @@ use Rattle.board_items.specs.declared.item.Hole.{Hole}
 use Rattle.board_items.specs.declared.item.What.{What}
 use Rattle.board_items.specs.declared.item.What.TheVariants.{Track, Via, Pad, Graphic, Fill, Edge, Area, Body, Note}
 use Rattle.board_items.specs.declared.item.Item.{Item}
-use Rattle.board_items.specs.Parts.{parts_of, hole_parts, kind_parts, FirstHasPoints}
-use Rattle.board_items.specs.Moves.{IsShiftedPart, AreShifted, HoleIsShifted, KindIsShifted, IsShiftedItem, moves}
-use Rattle.board_items.specs.Slots.{IsMovedItem}
+use Rattle.board_items.specs.ItemParts.{parts_of, hole_parts, kind_parts, FirstHasPoints}
+use Rattle.board_items.specs.ItemMoves.{IsShiftedPart, AreShifted, HoleIsShifted, KindIsShifted, IsShiftedItem, moves}
+use Rattle.board_items.specs.ItemSlots.{IsMovedItem}
 
 zip_append : {X : Type 0} (R : X → X → Type 0) (xs ys us vs : List X) → AllZip R xs ys → AllZip R us vs → AllZip R (xs ++ us) (ys ++ vs)
 zip_append R [] [] us vs h k = k

@@ -15,20 +15,20 @@ use Rattle.board_items.specs.declared.item.What.{What}
 use Rattle.board_items.specs.declared.item.What.TheVariants.{Track, Via, Pad, Graphic, Fill, Edge, Area, Body, Note}
 use Rattle.board_items.specs.declared.item.Item.{Item}
 use Rattle.copper_layers.specs.Layers.{is_within}
-use Rattle.board_items.specs.Parts.{parts_of}
+use Rattle.board_items.specs.ItemParts.{parts_of}
 use Rattle.board_items.specs.Boards.{PlainBoard, IsSound, Rise, UnitsBelow, AllAdmitted, name_of, is_near, is_on_board, has_layers_of, is_admitted, is_mark, ids_where}
 use Rattle.std.proofs.lemmas.List.{with_items_is}
 use Rattle.std.specs.Vec.{with_items}
 use Rattle.std.specs.declared.alloc.Global.{Global}
 use Rattle.board_items.specs.Measures.{HasLengths}
-use Rattle.board_items.specs.Notes.{notes_of}
-use Rattle.board_items.specs.Kept.{IsKept}
+use Rattle.board_items.specs.ItemNotes.{notes_of}
+use Rattle.board_items.specs.BoardCaches.{IsKept}
 use Rattle.board_items.proofs.MeasureLemmas.{no_lengths}
 use Rattle.board_items.proofs.NetIds.{ids_unchanged}
-use Rattle.board_items.specs.Slots.{present, is_slot_on_board, slot_stays, IsMovedSlot}
+use Rattle.board_items.specs.ItemSlots.{present, is_slot_on_board, slot_stays, IsMovedSlot}
 use Rattle.board_items.proofs.SlotLists.{stays_slots, moved_slots, same_row}
 use Rattle.board_items.proofs.Admitted.{all_kept}
-use Rattle.board_items.specs.Moves.{AreShifted, KindIsShifted, IsShiftedItem, IsMovedEntry, IsMoved, moves, item_stays, unit_stays, is_note}
+use Rattle.board_items.specs.ItemMoves.{AreShifted, KindIsShifted, IsShiftedItem, IsMovedEntry, IsMoved, moves, item_stays, unit_stays, is_note}
 use Rattle.board_items.proofs.MovedParts.{parts_zip}
 
 -- ---- parts
@@ -240,10 +240,10 @@ module _ (dx dy : ℤ) (item : Item) (here : is_on_board item ≡ true) (stays :
   pub all_parts : list_all (λ part. core_stays (pos 2 *ℤ dx) (pos 2 *ℤ dy) part.shape.core) (parts_of item) ≡ true
   all_parts = halves.1
 
-pub list_all_front : {X : Type 0} (test : X → Bool) (xs ys : List X) → list_all test (xs ++ ys) ≡ true → list_all test xs ≡ true
-list_all_front test [] ys h = refl
-list_all_front test (x ∷ xs) ys h =
-    let both = and_parts (test x) (list_all test (xs ++ ys)) h in and_from _ _ both.0 (list_all_front test xs ys both.1)
+pub list_all_prefix : {X : Type 0} (test : X → Bool) (xs ys : List X) → list_all test (xs ++ ys) ≡ true → list_all test xs ≡ true
+list_all_prefix test [] ys h = refl
+list_all_prefix test (x ∷ xs) ys h =
+    let both = and_parts (test x) (list_all test (xs ++ ys)) h in and_from _ _ both.0 (list_all_prefix test xs ys both.1)
 
 pub list_all_back : {X : Type 0} (test : X → Bool) (xs ys : List X) → list_all test (xs ++ ys) ≡ true → list_all test ys ≡ true
 list_all_back test [] ys h = h

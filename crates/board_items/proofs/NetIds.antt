@@ -9,7 +9,7 @@ use Rattle.std.specs.Map.{lookup}
 use Rattle.std.specs.declared.alloc.Global.{Global}
 use Rattle.board_items.specs.declared.item.Item.{Item}
 use Rattle.board_items.specs.Boards.{PlainBoard, IsSound, marks_of, AreDistinct, AllAdmitted, name_of, is_on_board, has_layers_of, ids_of_net}
-use Rattle.board_items.specs.Kept.{IsNetAt, AreIdsOf, IsKept}
+use Rattle.board_items.specs.BoardCaches.{IsNetAt, AreIdsOf, IsKept}
 use Rattle.board_items.proofs.Rising.{ids_where-append}
 use Rattle.board_items.proofs.Nets.{absent_parts}
 

@@ -4,8 +4,8 @@ use Rattle.std.specs.List.{last_or}
 use Rattle.std.proofs.lemmas.Bool.{ne_eqb}
 use Rattle.board_items.specs.declared.item.Item.{Item}
 use Rattle.board_items.specs.Units.{is_body}
-use Rattle.board_items.specs.Slots.{present, IsUnitIn, AreUnitsIn, UnitsRise}
-use Rattle.board_items.specs.Notes.{is_body_of, body_before, only_body}
+use Rattle.board_items.specs.ItemSlots.{present, IsUnitIn, AreUnitsIn, UnitsRise}
+use Rattle.board_items.specs.ItemNotes.{is_body_of, body_before, only_body}
 
 is_lt : (a b : ℕ) → a < b → nat_lt a b ≡ true
 is_lt a b h = grind (arith, h)

@@ -16,7 +16,7 @@ use Rattle.board_items.specs.declared.item.What.TheVariants.{Track, Via, Pad, Gr
 use Rattle.board_items.specs.declared.item.Item.{Item}
 use Rattle.board_items.specs.Measures.{HasLengths}
 use Rattle.board_items.specs.Boards.{PlainBoard}
-use Rattle.board_items.specs.Moves.{IsShiftedPart, AreShifted, IsShiftedHole, HoleIsShifted, KindIsShifted, IsShiftedItem, moves, IsMovedEntry, IsMoved}
+use Rattle.board_items.specs.ItemMoves.{IsShiftedPart, AreShifted, IsShiftedHole, HoleIsShifted, KindIsShifted, IsShiftedItem, moves, IsMovedEntry, IsMoved}
 
 -- ---- points are told by their coordinates, and shapes by their cores and radii
 one_way : (n m : ℕ) (a b : n ≤ m) → a ≡ b

@@ -4,10 +4,10 @@ use Rattle.std.specs.Map.{lookup}
 use Rattle.std.specs.declared.alloc.Global.{Global}
 use Rattle.board_items.specs.declared.item.Item.{Item}
 use Rattle.board_items.specs.Boards.{PlainBoard, IsSound, Rise, UnitsBelow, AllAdmitted, AreDistinct, item_at, ids_where, is_admitted, is_mark}
-use Rattle.board_items.specs.Moves.{is_note}
-use Rattle.board_items.specs.Notes.{notes_of}
-use Rattle.board_items.specs.Kept.{IsNetAt, AreIdsOf, IsKept}
-use Rattle.board_items.specs.Slots.{present, AreUnitsIn}
+use Rattle.board_items.specs.ItemMoves.{is_note}
+use Rattle.board_items.specs.ItemNotes.{notes_of}
+use Rattle.board_items.specs.BoardCaches.{IsNetAt, AreIdsOf, IsKept}
+use Rattle.board_items.specs.ItemSlots.{present, AreUnitsIn}
 use Rattle.board_items.specs.Back.{placed, id_placed, FitsOne}
 use Rattle.board_items.proofs.Admitted.{all_kept}
 use Rattle.board_items.proofs.Nets.{absent_parts}

@@ -5,10 +5,10 @@ use Rattle.std.specs.Map.{lookup}
 use Rattle.std.specs.declared.alloc.Global.{Global}
 use Rattle.board_items.specs.declared.item.Item.{Item}
 use Rattle.board_items.specs.Boards.{PlainBoard, IsSound, Rise, UnitsBelow, AllAdmitted, AreDistinct, item_at, ids_where, is_mark, marks_of}
-use Rattle.board_items.specs.Moves.{is_note}
-use Rattle.board_items.specs.Notes.{notes_of}
-use Rattle.board_items.specs.Kept.{IsNetAt, AreIdsOf, IsKept}
-use Rattle.board_items.specs.Slots.{without_id}
+use Rattle.board_items.specs.ItemMoves.{is_note}
+use Rattle.board_items.specs.ItemNotes.{notes_of}
+use Rattle.board_items.specs.BoardCaches.{IsNetAt, AreIdsOf, IsKept}
+use Rattle.board_items.specs.ItemSlots.{without_id}
 use Rattle.board_items.proofs.Admitted.{all_kept}
 use Rattle.board_items.proofs.Nets.{absent_parts}
 use Rattle.board_items.proofs.NetIds.{differs}

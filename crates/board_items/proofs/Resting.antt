@@ -12,7 +12,7 @@ use Rattle.board_items.specs.declared.item.What.{What}
 use Rattle.board_items.specs.declared.item.What.TheVariants.{Track, Via, Pad, Graphic, Fill, Edge, Area, Body, Note}
 use Rattle.board_items.specs.declared.item.Item.{Item}
 use Rattle.board_items.specs.Boards.{PlainBoard}
-use Rattle.board_items.specs.Moves.{IsShiftedPart, AreShifted, HoleIsShifted, KindIsShifted, IsShiftedItem, moves, IsMovedEntry, IsMoved}
+use Rattle.board_items.specs.ItemMoves.{IsShiftedPart, AreShifted, HoleIsShifted, KindIsShifted, IsShiftedItem, moves, IsMovedEntry, IsMoved}
 use Rattle.board_items.proofs.OneMove.{one_move}
 
 abbrev Entry : Type 0

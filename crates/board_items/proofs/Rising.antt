@@ -30,9 +30,9 @@ pub marks-append : (xs ys : List (ℕ × Item)) → marks_of (xs ++ ys) ≡ mark
 marks-append xs ys = ids_where-append (λ item. is_mark item.what) xs ys
 
 -- ---- before and behind an item
-pub rise_front : (low high : ℕ) (xs : List (ℕ × Item)) (e : ℕ × Item) (ys : List (ℕ × Item)) → Rise low high (xs ++ e ∷ ys) → Rise low e.0 xs
-rise_front low high [] e ys h = h.0
-rise_front low high (x ∷ xs) e ys h = (h.0, rise_front (x.0 + 1) high xs e ys h.1)
+pub rise_prefix : (low high : ℕ) (xs : List (ℕ × Item)) (e : ℕ × Item) (ys : List (ℕ × Item)) → Rise low high (xs ++ e ∷ ys) → Rise low e.0 xs
+rise_prefix low high [] e ys h = h.0
+rise_prefix low high (x ∷ xs) e ys h = (h.0, rise_prefix (x.0 + 1) high xs e ys h.1)
 
 pub rise_back : (low high : ℕ) (xs : List (ℕ × Item)) (e : ℕ × Item) (ys : List (ℕ × Item)) → Rise low high (xs ++ e ∷ ys) → Rise (e.0 + 1) high ys
 rise_back low high [] e ys h = h.1
@@ -61,13 +61,13 @@ item_at-front low high id (x ∷ xs) e ys h lt = ap (λ rest. cond (nat_eq id x.
 pub item_at-back : (low high id : ℕ) (xs : List (ℕ × Item)) (e : ℕ × Item) (ys : List (ℕ × Item)) → Rise low high (xs ++ e ∷ ys) → e.0 < id → item_at (xs ++ e ∷ ys) id ≡ item_at ys id
 item_at-back low high id [] e ys h lt = passed_over id e ys (λ k. omega (arith, k))
 item_at-back low high id (x ∷ xs) e ys h lt =
-    let before = rise_ends (x.0 + 1) e.0 xs (rise_front (x.0 + 1) high xs e ys h.1) in
+    let before = rise_ends (x.0 + 1) e.0 xs (rise_prefix (x.0 + 1) high xs e ys h.1) in
     passed_over id x (xs ++ e ∷ ys) (λ k. omega (arith, before, k)) ∙ item_at-back (x.0 + 1) high id xs e ys h.1 lt
 
 pub item_at-middle : (low high : ℕ) (xs : List (ℕ × Item)) (e : ℕ × Item) (ys : List (ℕ × Item)) → Rise low high (xs ++ e ∷ ys) → item_at (xs ++ e ∷ ys) e.0 ≡ Some e.1
 item_at-middle low high [] e ys h = ap (λ b. cond b (Some e.1) (item_at ys e.0)) (eq-eqb e.0 e.0 refl)
 item_at-middle low high (x ∷ xs) e ys h =
-    let before = rise_ends (x.0 + 1) e.0 xs (rise_front (x.0 + 1) high xs e ys h.1) in
+    let before = rise_ends (x.0 + 1) e.0 xs (rise_prefix (x.0 + 1) high xs e ys h.1) in
     passed_over e.0 x (xs ++ e ∷ ys) (λ k. omega (arith, before, k)) ∙ item_at-middle (x.0 + 1) high xs e ys h.1
 
 -- ---- a list that was cut in two
@@ -78,8 +78,8 @@ module _ (all front back : List (ℕ × Item)) (middle : ℕ × Item) (after : L
   rise : Rise rising.low rising.high (front ++ middle ∷ after)
   rise = subst (λ (xs : List (ℕ × Item)). Rise rising.low rising.high xs) whole rising.rise
 
-  pub rising_front : IsRising front
-  rising_front = record { low = rising.low; high = middle.0; rise = rise_front rising.low rising.high front middle after rise }
+  pub rising_prefix : IsRising front
+  rising_prefix = record { low = rising.low; high = middle.0; rise = rise_prefix rising.low rising.high front middle after rise }
 
   pub rising_back : IsRising after
   rising_back = record { low = middle.0 + 1; high = rising.high; rise = rise_back rising.low rising.high front middle after rise }
@@ -87,8 +87,8 @@ module _ (all front back : List (ℕ × Item)) (middle : ℕ × Item) (after : L
   pub found_middle : (id : ℕ) → id ≡ middle.0 → item_at all id ≡ Some middle.1
   found_middle id e = ap (λ n. item_at all n) e ∙ ap (λ xs. item_at xs middle.0) whole ∙ item_at-middle rising.low rising.high front middle after rise
 
-  pub found_front : (id : ℕ) → id < middle.0 → item_at all id ≡ item_at front id
-  found_front id lt = ap (λ xs. item_at xs id) whole ∙ item_at-front rising.low rising.high id front middle after rise lt
+  pub found_prefix : (id : ℕ) → id < middle.0 → item_at all id ≡ item_at front id
+  found_prefix id lt = ap (λ xs. item_at xs id) whole ∙ item_at-front rising.low rising.high id front middle after rise lt
 
   pub found_back : (id : ℕ) → middle.0 < id → item_at all id ≡ item_at after id
   found_back id lt = ap (λ xs. item_at xs id) whole ∙ item_at-back rising.low rising.high id front middle after rise lt

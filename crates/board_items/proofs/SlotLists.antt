@@ -6,9 +6,9 @@ use Rattle.std.proofs.lemmas.List.Elements.{All-nil, All-cons}
 use Rattle.std.proofs.lemmas.Bool.{eqb-true, ne_eqb}
 use Rattle.board_items.specs.declared.item.Item.{Item}
 use Rattle.board_items.specs.Boards.{PlainBoard, item_at}
-use Rattle.board_items.specs.Parts.{parts_of, FirstHasPoints}
-use Rattle.board_items.specs.Moves.{IsShiftedItem, IsMovedEntry, HaveFirstPoints, moves, item_stays, unit_stays}
-use Rattle.board_items.specs.Slots.{present, at_slot, without_id, is_slot_of, slot_stays, IsMovedSlot}
+use Rattle.board_items.specs.ItemParts.{parts_of, FirstHasPoints}
+use Rattle.board_items.specs.ItemMoves.{IsShiftedItem, IsMovedEntry, HaveFirstPoints, moves, item_stays, unit_stays}
+use Rattle.board_items.specs.ItemSlots.{present, at_slot, without_id, is_slot_of, slot_stays, IsMovedSlot}
 use Rattle.board_items.proofs.MovedParts.{moved_item}
 
 -- ---- numbers

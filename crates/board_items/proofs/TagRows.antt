@@ -8,8 +8,8 @@ use Rattle.std.specs.Vec.{with_items}
 use Rattle.std.specs.List.{AllZip}
 use Rattle.std.specs.declared.alloc.Global.{Global}
 use Rattle.board_items.specs.declared.item.Item.{Item}
-use Rattle.board_items.specs.Moves.{IsShiftedItem, moves}
-use Rattle.board_items.specs.Slots.{present, IsMovedSlot}
+use Rattle.board_items.specs.ItemMoves.{IsShiftedItem, moves}
+use Rattle.board_items.specs.ItemSlots.{present, IsMovedSlot}
 use Rattle.board_items.specs.Tags.{tag_of, IsTagIn, AreTagsIn, is_tag_in, are_tags_in, all_named, named_from, only_named}
 use Rattle.board_items.proofs.MovedParts.{moved_item}
 use Rattle.board_items.proofs.Walking.{left_at}

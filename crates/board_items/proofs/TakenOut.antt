@@ -3,7 +3,7 @@ use Rattle.std.proofs.Common.{◌≡◌, ◌≢◌, ◌∙◌, ap, sym, refl, �
 use Rattle.std.proofs.lemmas.Bool.{eqb-true, ne_eqb}
 use Rattle.board_items.specs.declared.item.Item.{Item}
 use Rattle.board_items.specs.Boards.{Rise, item_at}
-use Rattle.board_items.specs.Slots.{without_id}
+use Rattle.board_items.specs.ItemSlots.{without_id}
 use Rattle.board_items.specs.Back.{entries_of, own_at}
 use Rattle.board_items.proofs.SlotLists.{without_part, passed_unit}
 

@@ -7,7 +7,7 @@ use Rattle.std.specs.List.Sorted.{IsNonDecreasingBy}
 use Rattle.geo_seg.proofs.Rewritten.{Rewritten}
 use Rattle.board_items.specs.declared.item.Item.{Item}
 use Rattle.board_items.specs.Back.{entries_of}
-use Rattle.board_items.specs.Slots.{present, unit_items, IsUnitIn, AreUnitsIn, are_units_in, UnitsRise, ArePlacesOf, HaveIdsIn, slot_stays, IsMovedSlot}
+use Rattle.board_items.specs.ItemSlots.{present, unit_items, IsUnitIn, AreUnitsIn, are_units_in, UnitsRise, ArePlacesOf, HaveIdsIn, slot_stays, IsMovedSlot}
 use Rattle.board_items.proofs.SlotLists.{passed_unit}
 use Rattle.board_items.proofs.TakenOut.{taken_to}
 use Rattle.board_items.proofs.NoteWalks.{later}
@@ -99,13 +99,13 @@ module _ (unit : ℕ) where
   none_items k (s ∷ ss) (u ∷ us) h none =
       other_slot k s u ss h.0 (none zero (omega arith)) ∙ none_items (k + 1) ss us h.1 (λ n lt. none (suc n) (omega arith))
 
-  pub items_front : (k long : ℕ) (slots : List (Option Item)) (units : List ℕ) → AreUnitsIn slots units → ((n : ℕ) → n < length units → long ≤ n → get_or units n 0 ≢ unit)
+  pub items_prefix : (k long : ℕ) (slots : List (Option Item)) (units : List ℕ) → AreUnitsIn slots units → ((n : ℕ) → n < length units → long ≤ n → get_or units n 0 ≢ unit)
       → unit_items unit k (take long slots) ≡ unit_items unit k slots
-  items_front k zero slots units h none = sym (none_items k slots units h (λ n lt. none n lt (omega arith)))
-  items_front k (suc long) [] units h none = refl
-  items_front k (suc long) (s ∷ ss) [] h none = absurd h
-  items_front k (suc long) (s ∷ ss) (u ∷ us) h none =
-      same_slot k s (take long ss) ss (items_front (k + 1) long ss us h.1 (λ n lt le. none (suc n) (omega arith) (omega arith)))
+  items_prefix k zero slots units h none = sym (none_items k slots units h (λ n lt. none n lt (omega arith)))
+  items_prefix k (suc long) [] units h none = refl
+  items_prefix k (suc long) (s ∷ ss) [] h none = absurd h
+  items_prefix k (suc long) (s ∷ ss) (u ∷ us) h none =
+      same_slot k s (take long ss) ss (items_prefix (k + 1) long ss us h.1 (λ n lt le. none (suc n) (omega arith) (omega arith)))
 
   pub items_behind : (k from : ℕ) (slots : List (Option Item)) (units : List ℕ) → AreUnitsIn slots units → ((n : ℕ) → n < from → n < length units → get_or units n 0 ≢ unit)
       → unit_items unit (k + from) (drop from slots) ≡ unit_items unit k slots
@@ -173,12 +173,12 @@ pub others_behind : (unit : ℕ) (units : List ℕ) (from end : ℕ) → ArePlac
 others_behind unit units from end p n lt behind e = let both = p.all n lt e in omega (arith, behind, both.1)
 
 -- ---- the part of the row
-units_front : (n : ℕ) (slots : List (Option Item)) (units : List ℕ) → AreUnitsIn slots units → AreUnitsIn (take n slots) (take n units)
-units_front zero slots units h = tt
-units_front (suc n) [] [] h = tt
-units_front (suc n) [] (u ∷ us) h = absurd h
-units_front (suc n) (s ∷ ss) [] h = absurd h
-units_front (suc n) (s ∷ ss) (u ∷ us) h = (h.0, units_front n ss us h.1)
+units_prefix : (n : ℕ) (slots : List (Option Item)) (units : List ℕ) → AreUnitsIn slots units → AreUnitsIn (take n slots) (take n units)
+units_prefix zero slots units h = tt
+units_prefix (suc n) [] [] h = tt
+units_prefix (suc n) [] (u ∷ us) h = absurd h
+units_prefix (suc n) (s ∷ ss) [] h = absurd h
+units_prefix (suc n) (s ∷ ss) (u ∷ us) h = (h.0, units_prefix n ss us h.1)
 
 units_behind : (n : ℕ) (slots : List (Option Item)) (units : List ℕ) → AreUnitsIn slots units → AreUnitsIn (drop n slots) (drop n units)
 units_behind zero slots units h = h
@@ -189,7 +189,7 @@ units_behind (suc n) (s ∷ ss) (u ∷ us) h = units_behind n ss us h.1
 
 pub units_part : (from long : ℕ) (slots : List (Option Item)) (units : List ℕ) → AreUnitsIn slots units → are_units_in (take long (drop from slots)) (take long (drop from units)) ≡ true
 units_part from long slots units h =
-    all_shown (take long (drop from slots)) (take long (drop from units)) (units_front long (drop from slots) (drop from units) (units_behind from slots units h))
+    all_shown (take long (drop from slots)) (take long (drop from units)) (units_prefix long (drop from slots) (drop from units) (units_behind from slots units h))
 
 pub part_short : {X : Type 0} (n : ℕ) (xs : List X) → length (take n xs) ≤ n
 part_short zero xs = omega arith
@@ -212,7 +212,7 @@ behind_in (suc i) n (x ∷ xs) lt = let inside = behind_in i n xs lt in omega (a
 pub items_part : (unit from end : ℕ) (slots : List (Option Item)) (units : List ℕ) → AreUnitsIn slots units → ArePlacesOf unit units from end
     → unit_items unit from (take (end - from) (drop from slots)) ≡ unit_items unit 0 slots
 items_part unit from end slots units h p =
-    items_front unit from (end - from) (drop from slots) (drop from units) (units_behind from slots units h) others
+    items_prefix unit from (end - from) (drop from slots) (drop from units) (units_behind from slots units h) others
     ∙ ap (λ (k : ℕ). unit_items unit k (drop from slots)) first ∙ items_behind unit 0 from slots units h (others_before unit units from end p)
   where
     first : from ≡ 0 + from

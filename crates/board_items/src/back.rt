@@ -3,7 +3,7 @@
 ghost use Rattle.std.specs.Prelude.{◌≡◌, true, set, if◌then◌else◌, ◌<◌, ◌≤◌, ◌+◌, ◌++◌, ◌&&◌, [], Some, map, filter, not, nat_eq, length, vec_len, vec_capacity, IfOk, OnOk, IfErr, OnErr};
 ghost use Rattle.board_items.specs.Boards.{IsSound, item_at};
 ghost use Rattle.std.specs.List.{insert};
-ghost use Rattle.board_items.specs.Slots.{UnitsRise};
+ghost use Rattle.board_items.specs.ItemSlots.{UnitsRise};
 ghost use Rattle.board_items.specs.Units.{without_unit};
 ghost use Rattle.board_items.specs.Back.{kept_entry, entries_of, own_at, id_placed, placed, FitsOne, FitsBack, IsPutBack};
 ghost use Rattle.board_items.specs.declared.item.Item.{Item};
@@ -23,11 +23,12 @@ pub struct Kept {
 // ---- taken out
 
 impl Board {
-    /// Takes every item of the unit out, as `remove` does, and gives them by rising id. After want of memory the board is
+    /// Takes every item of the unit out, as `remove` does, and gives them by rising id. After running out of memory the board is
     /// as it was.
     pub fn taken(&mut self, unit: u32) -> Result<Vec<Kept>, AllocError>
         ensures taken { OnOk result (self.new ≡ without_unit self.old unit) }
-        ensures items { IfOk result (λ items. map kept_entry items.items ≡ entries_of unit self.old.items) }
+        ensures items { IfOk result (λ items.
+            map kept_entry items.items ≡ entries_of unit self.old.items) }
         ensures unchanged { OnErr result (self.new ≡ self.old) }
     {
         let mut items = Vec::with_capacity(*self.slots.allocator(), self.count_of(unit))?;
@@ -58,7 +59,8 @@ impl Board {
 
     /// Takes every item of the unit out and appends them.
     fn take_into(&mut self, unit: u32, items: &mut Vec<Kept>)
-        requires { vec_len items.old + length (entries_of unit self.old.items) ≤ vec_capacity items.old }
+        requires { vec_len items.old + length (entries_of unit self.old.items)
+            ≤ vec_capacity items.old }
         ensures taken { self.new ≡ without_unit self.old unit }
         ensures items { map kept_entry items.new.items ≡ map kept_entry items.old.items ++
             entries_of unit self.old.items }
@@ -72,14 +74,16 @@ impl Board {
     /// Takes the item with this id out if it is of the unit, and appends it.
     fn take_own(&mut self, id: u32, unit: u32, items: &mut Vec<Kept>)
         requires id { id < self.old.next_id }
-        requires room { vec_len items.old + length (own_at id unit self.old.items) ≤ vec_capacity items.old }
+        requires spare_capacity { vec_len items.old + length (own_at id unit self.old.items)
+            ≤ vec_capacity items.old }
         ensures taken { self.new ≡ record self.old {
           items = filter
               (λ entry. not (nat_eq entry.0 id && nat_eq entry.1.unit unit)) self.old.items;
         } }
         ensures items { map kept_entry items.new.items ≡ map kept_entry items.old.items ++
             own_at id unit self.old.items }
-        ensures len { vec_len items.new ≡ vec_len items.old + length (own_at id unit self.old.items) }
+        ensures len { vec_len items.new
+            ≡ vec_len items.old + length (own_at id unit self.old.items) }
         ensures capacity { vec_capacity items.new ≡ vec_capacity items.old }
     {
         if self.unit_at(id) != unit {
@@ -128,7 +132,7 @@ fn put_if(ids: &mut Vec<u32>, id: u32, listed: bool)
 }
 
 /// Makes room for one more in each list.
-pub(crate) fn make_room(
+pub(crate) fn reserve_one(
     marks: &mut Vec<u32>,
     notes: &mut Vec<u32>,
     ids: &mut Vec<u32>,
@@ -159,7 +163,7 @@ fn put_unit(in_order: bool, units: &mut Vec<u32>, id: u32, unit: u32) -> bool
 
 impl Board {
     /// Puts items back under the ids at which they stood, and leaves the list empty. It takes no memory but for the lists of
-    /// ids. After want of memory the board and the list are as they were.
+    /// ids. After running out of memory the board and the list are as they were.
     ///
     /// Their ids rise, were given before and are not in the board; they are of one unit, which was given before and is not
     /// in the board; each of them may stand there, and the board holds at most 200,000 items with them.
@@ -183,7 +187,7 @@ impl Board {
         Ok(())
     }
 
-    /// Puts one item back, or gives it back where memory is wanting.
+    /// Puts one item back, or gives it back where memory runs out.
     fn put_one(&mut self, kept: Kept) -> Result<(), Kept>
         requires { FitsOne self.old (kept_entry kept) }
         ensures put { OnOk result (self.new ≡ record self.old {
@@ -197,7 +201,7 @@ impl Board {
             return Err(kept);
         };
         let ids = &mut self.of_nets[place];
-        if make_room(&mut self.marks, &mut self.notes, ids).is_err() {
+        if reserve_one(&mut self.marks, &mut self.notes, ids).is_err() {
             return Err(kept);
         }
         let id = kept.id;

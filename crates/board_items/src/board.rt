@@ -5,17 +5,17 @@ ghost use Rattle.std.specs.Option.{option_copied};
 ghost use Rattle.std.specs.List.{list_all};
 ghost use Rattle.plain_types.specs.Limits.{AreCounted};
 ghost use Rattle.copper_layers.specs.Layers.{is_within};
-ghost use Rattle.board_items.specs.Parts.{parts_of};
-ghost use Rattle.board_items.specs.Refusals.{refusal_of, reason_in, room_of};
+ghost use Rattle.board_items.specs.ItemParts.{parts_of};
+ghost use Rattle.board_items.specs.ItemRefusals.{refusal_of, reason_in, capacity_of};
 ghost use Rattle.board_items.specs.Boards.{PlainBoard, IsSound, empty_board, name_of, with_net, item_at, with_item, is_near, is_admitted, is_mark, marks_of, ids_of_net};
-ghost use Rattle.board_items.specs.Moves.{unit_stays, IsMoved, HaveFirstPoints};
-ghost use Rattle.board_items.specs.Slots.{present, without_id};
-ghost use Rattle.board_items.specs.Notes.{notes_of, body_of};
+ghost use Rattle.board_items.specs.ItemMoves.{unit_stays, IsMoved, HaveFirstPoints};
+ghost use Rattle.board_items.specs.ItemSlots.{present, without_id};
+ghost use Rattle.board_items.specs.ItemNotes.{notes_of, body_of};
 ghost use Rattle.board_items.specs.Units.{without_unit, found_of};
 ghost use Rattle.board_items.specs.Tags.{tag_of};
-ghost use Rattle.board_items.specs.Walks.{items_left, unit_left, nets_left};
+ghost use Rattle.board_items.specs.BoardIterators.{items_left, unit_left, nets_left};
 
-use crate::back::make_room;
+use crate::back::reserve_one;
 use crate::found::Found;
 use crate::item::{Item, Nm, What};
 use crate::moves::{Step, shift_slots, slots_stay};
@@ -64,8 +64,8 @@ pub struct Board {
 impl Model for Board {
     ghost use Rattle.std.specs.Prelude.{length};
     ghost use Rattle.board_items.specs.Boards.{PlainBoard};
-    ghost use Rattle.board_items.specs.Kept.{IsWholeBoard};
-    ghost use Rattle.board_items.specs.Slots.{present};
+    ghost use Rattle.board_items.specs.BoardCaches.{IsWholeBoard};
+    ghost use Rattle.board_items.specs.ItemSlots.{present};
 
     ghost Value = { PlainBoard };
 
@@ -193,12 +193,12 @@ impl Board {
     /// Appends an item that the board takes, and gives its id, one above the greatest that was ever given, or 0.
     ///
     /// That the board takes it was tested before: its position lies there, its net is declared, the board has all its layers,
-    /// and there is room for it. Only want of memory refuses it, and the board is then as it was.
+    /// and there is room for it. Only running out of memory refuses it, and the board is then as it was.
     #[inline(always)]
     pub fn push_admitted(&mut self, item: Item) -> Result<u32, AllocError>
         requires unit { item.unit < 4294967295 }
         requires admitted { is_admitted self.old item ≡ true }
-        requires room { 0 < room_of self.old }
+        requires spare_capacity { 0 < capacity_of self.old }
         ensures id { IfOk result (λ id. id ≡ self.old.next_id) }
         ensures added { OnOk result (self.new ≡ with_item self.old item) }
         ensures unchanged { OnErr result (self.new ≡ self.old) }
@@ -225,7 +225,7 @@ impl Board {
     fn admit(&self, item: &Item) -> Result<(), ItemError>
         ensures refused { refusal_of self.now item.now ≡ reason_in result }
         ensures admitted { OnOk result (is_admitted self.now item.now ≡ true) }
-        ensures room { OnOk result (0 < room_of self.now) }
+        ensures spare_capacity { OnOk result (0 < capacity_of self.now) }
         ensures only { result ≢ Err ItemError.OutOfMemory }
     {
         if !(is_near(item.x) && is_near(item.y)) {
@@ -369,7 +369,8 @@ impl Board {
     /// The items of the unit with their ids, by rising id. It looks at no item of another unit: it walks a row of unit
     /// numbers, and where units rise along the items, as all readers give them, only those of the unit.
     pub fn of_unit(&self, unit: u32) -> UnitIter<'_>
-        ensures items { unit_left result ≡ filter (λ entry. nat_eq entry.1.unit unit) self.now.items }
+        ensures items { unit_left result ≡ filter (λ entry.
+            nat_eq entry.1.unit unit) self.now.items }
         ensures sound { IsSound self.now }
     {
         let places = places_in(&self.units, self.in_order, unit);
@@ -385,7 +386,7 @@ impl Board {
 
     /// How many more items `add` takes before it answers `TooMany`.
     pub fn left(&self) -> u32
-        ensures room { result ≡ room_of self.now }
+        ensures spare_capacity { result ≡ capacity_of self.now }
         ensures sound { IsSound self.now }
     {
         let places = MOST_ITEMS - self.live;
@@ -474,7 +475,7 @@ fn make_rows(
 }
 
 /// Makes room for one more in each row and in each list.
-fn make_all_room(
+fn reserve_each(
     slots: &mut Vec<Option<Item>>,
     tags: &mut Vec<u32>,
     units: &mut Vec<u32>,
@@ -496,7 +497,7 @@ fn make_all_room(
     ensures of_net { OnOk result (vec_len of_net.new < vec_capacity of_net.new) }
 {
     make_rows(slots, tags, units)?;
-    make_room(marks, notes, of_net)
+    reserve_one(marks, notes, of_net)
 }
 
 /// Appends a slot with the item, its tag and its unit, and its id to those of its net and where it is a mark or a note, or
@@ -516,8 +517,10 @@ fn push_slot(
     ensures slots { OnOk result (slots.new.items ≡ slots.old.items ++ Some item ∷ []) }
     ensures tags { OnOk result (tags.new.items ≡ tags.old.items ++ tag_of item.name ∷ []) }
     ensures units { OnOk result (units.new.items ≡ units.old.items ++ item.unit ∷ []) }
-    ensures marks { IfOk result (λ id. marks.new.items ≡ marks.old.items ++ marks_of ((id, item) ∷ [])) }
-    ensures notes { IfOk result (λ id. notes.new.items ≡ notes.old.items ++ notes_of ((id, item) ∷ [])) }
+    ensures marks { IfOk result (λ id.
+        marks.new.items ≡ marks.old.items ++ marks_of ((id, item) ∷ [])) }
+    ensures notes { IfOk result (λ id.
+        notes.new.items ≡ notes.old.items ++ notes_of ((id, item) ∷ [])) }
     ensures of_net { IfOk result (λ id. of_net.new.items ≡ of_net.old.items ++ id ∷ []) }
     ensures slots_stay { OnErr result (slots.new.items ≡ slots.old.items) }
     ensures tags_stay { OnErr result (tags.new.items ≡ tags.old.items) }
@@ -531,7 +534,7 @@ fn push_slot(
     let unit = item.unit;
     let is_mark = item.what.is_mark();
     let is_note = item.what.is_note();
-    make_all_room(slots, tags, units, marks, notes, of_net)?;
+    reserve_each(slots, tags, units, marks, notes, of_net)?;
     // Nothing is refused from here on, so the item is moved once.
     slots.push_reserved(Some(item));
     tags.push_reserved(tag);

@@ -2,7 +2,7 @@
 
 ghost use Rattle.std.specs.Prelude.{◌≡◌, IfOk, map, Vec, ℕ};
 ghost use Rattle.std.specs.declared.alloc.Global.{Global};
-ghost use Rattle.board_items.specs.Walks.{nets_left};
+ghost use Rattle.board_items.specs.BoardIterators.{nets_left};
 ghost use Rattle.board_items.specs.Boards.{AreDistinct};
 
 use crate::board::Board;
@@ -18,7 +18,7 @@ use std::alloc::{AllocError, Global};
 
 // ---- parts
 
-/// An equal polygon. One of many corners gets the boxes of its runs anew.
+/// An equal polygon. One of many corners gets the boxes of its runs again.
 fn copy_poly(alloc: Global, poly: &Poly) -> Result<Poly, AllocError>
     ensures { IfOk result (λ copy. copy ≡ poly.now) }
 {

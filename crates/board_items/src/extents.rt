@@ -5,7 +5,7 @@ ghost use Rattle.geo_seg.specs.declared.boxes.Bounds.{Bounds};
 ghost use Rattle.geo_seg.specs.Boxes.{FitsShape};
 ghost use Rattle.board_items.specs.declared.parts.Part.{Part};
 ghost use Rattle.board_items.specs.Extents.{AreBoundsOf};
-ghost use Rattle.board_items.specs.Parts.{parts_of, hole_parts, kind_parts};
+ghost use Rattle.board_items.specs.ItemParts.{parts_of, hole_parts, kind_parts};
 
 use crate::item::{Hole, Item, What};
 use crate::parts::Part;
@@ -15,7 +15,8 @@ use std::slice;
 /// The box around what was found so far and one shape more.
 fn grown(found: Option<Bounds>, shape: &Shape) -> Bounds
     requires fits { IfSome found FitsShape }
-    ensures grown { (parts : List Part) (part : Part) → part.shape ≡ shape.now → AreBoundsOf parts found →
+    ensures grown { (parts : List Part) (part : Part) → part.shape ≡ shape.now
+        → AreBoundsOf parts found →
         AreBoundsOf (parts ++ part ∷ []) (Some result) }
     ensures fits { FitsShape result }
 {
@@ -29,7 +30,8 @@ fn grown(found: Option<Bounds>, shape: &Shape) -> Bounds
 /// The box around what was found so far and more parts.
 fn around(found: Option<Bounds>, parts: &[Part]) -> Option<Bounds>
     requires fits { IfSome found FitsShape }
-    ensures grown { (before : List Part) → AreBoundsOf before found → AreBoundsOf (before ++ parts.now) result }
+    ensures grown { (before : List Part) → AreBoundsOf before found
+        → AreBoundsOf (before ++ parts.now) result }
     ensures fits { IfSome result FitsShape }
 {
     let mut so_far = found;

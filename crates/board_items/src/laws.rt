@@ -3,8 +3,8 @@
 ghost use Rattle.std.specs.Prelude.{◌≡◌, ◌≢◌, ℕ, ℤ, pos, neg_ℤ, []};
 ghost use Rattle.board_items.specs.declared.item.Item.{Item};
 ghost use Rattle.board_items.specs.Boards.{PlainBoard};
-ghost use Rattle.board_items.specs.Parts.{parts_of, FirstHasPoints};
-ghost use Rattle.board_items.specs.Moves.{IsShiftedItem, IsMoved};
+ghost use Rattle.board_items.specs.ItemParts.{parts_of, FirstHasPoints};
+ghost use Rattle.board_items.specs.ItemMoves.{IsShiftedItem, IsMoved};
 
 /// A unit that is moved gives one board.
 pub fn one_move()

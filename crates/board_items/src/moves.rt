@@ -4,9 +4,9 @@ ghost use Rattle.std.specs.Prelude.{◌≡◌, ◌≤◌, ◌+ℤ◌, ◌*ℤ◌
 ghost use Rattle.std.specs.List.{AllZip, list_all};
 ghost use Rattle.geo_seg.specs.Shifts.{core_stays};
 ghost use Rattle.board_items.specs.Boards.{is_near, is_on_board};
-ghost use Rattle.board_items.specs.Parts.{parts_of, hole_parts, kind_parts, HasPoints, FirstHasPoints};
-ghost use Rattle.board_items.specs.Moves.{is_note, moves, item_stays, IsShiftedItem, IsShiftedPart, AreShifted, HoleIsShifted, KindIsShifted};
-ghost use Rattle.board_items.specs.Slots.{IsUnitIn, AreUnitsIn, ArePlacesOf, is_slot_on_board, slot_stays, IsMovedItem, IsMovedSlot};
+ghost use Rattle.board_items.specs.ItemParts.{parts_of, hole_parts, kind_parts, HasPoints, FirstHasPoints};
+ghost use Rattle.board_items.specs.ItemMoves.{is_note, moves, item_stays, IsShiftedItem, IsShiftedPart, AreShifted, HoleIsShifted, KindIsShifted};
+ghost use Rattle.board_items.specs.ItemSlots.{IsUnitIn, AreUnitsIn, ArePlacesOf, is_slot_on_board, slot_stays, IsMovedItem, IsMovedSlot};
 
 use crate::board::is_near;
 use crate::item::{Hole, Item, Nm, What};
@@ -69,7 +69,8 @@ fn parts_stay(parts: &[Part], by: Shift) -> bool
 }
 
 fn hole_stays(hole: &Option<Hole>, by: Shift) -> bool
-    ensures { result ≡ list_all (λ part. core_stays by.dx by.dy part.shape.core) (hole_parts hole.now) }
+    ensures { result ≡ list_all (λ part.
+        core_stays by.dx by.dy part.shape.core) (hole_parts hole.now) }
 {
     match hole {
         None => true,
@@ -78,7 +79,8 @@ fn hole_stays(hole: &Option<Hole>, by: Shift) -> bool
 }
 
 fn kind_stays(what: &What, by: Shift) -> bool
-    ensures { result ≡ list_all (λ part. core_stays by.dx by.dy part.shape.core) (kind_parts what.now) }
+    ensures { result ≡ list_all (λ part.
+        core_stays by.dx by.dy part.shape.core) (kind_parts what.now) }
 {
     let (first, second) = what.parts();
     parts_stay(first, by) && parts_stay(second, by)
@@ -86,7 +88,8 @@ fn kind_stays(what: &What, by: Shift) -> bool
 
 /// Its hole, and what its kind gives.
 fn others_stay(item: &Item, by: Shift) -> bool
-    ensures { result ≡ list_all (λ part. core_stays by.dx by.dy part.shape.core) (hole_parts item.now.hole
+    ensures { result ≡ list_all (λ part.
+        core_stays by.dx by.dy part.shape.core) (hole_parts item.now.hole
         ++ kind_parts item.now.what) }
 {
     hole_stays(&item.hole, by) && kind_stays(&item.what, by)
@@ -94,7 +97,8 @@ fn others_stay(item: &Item, by: Shift) -> bool
 
 /// Whether all points of the item's shapes stay on the board.
 fn shapes_stay(item: &Item, by: Shift) -> bool
-    ensures { result ≡ list_all (λ part. core_stays by.dx by.dy part.shape.core) (parts_of item.now) }
+    ensures { result ≡ list_all (λ part.
+        core_stays by.dx by.dy part.shape.core) (parts_of item.now) }
 {
     parts_stay(item.copper.as_slice(), by) && others_stay(item, by)
 }
@@ -224,7 +228,8 @@ impl Parts {
 }
 
 fn shift_hole(hole: &mut Option<Hole>, by: Shift)
-    requires { list_all (λ part. core_stays by.dx by.dy part.shape.core) (hole_parts hole.old) ≡ true }
+    requires { list_all (λ part.
+        core_stays by.dx by.dy part.shape.core) (hole_parts hole.old) ≡ true }
     ensures { HoleIsShifted by.dx by.dy hole.old hole.new }
 {
     if let Some(hole) = hole {
@@ -234,7 +239,8 @@ fn shift_hole(hole: &mut Option<Hole>, by: Shift)
 
 impl What {
     fn shift(&mut self, by: Shift)
-        requires { list_all (λ part. core_stays by.dx by.dy part.shape.core) (kind_parts self.old) ≡ true }
+        requires { list_all (λ part.
+            core_stays by.dx by.dy part.shape.core) (kind_parts self.old) ≡ true }
         ensures { KindIsShifted by.dx by.dy self.old self.new }
     {
         match self {
@@ -271,7 +277,8 @@ fn shift_item(item: &mut Item, step: Step)
 /// Moves the item if it moves with the unit.
 fn shift_moving(item: &mut Item, unit: u32, step: Step)
     requires on_board { is_on_board item.old ≡ true }
-    requires stays { (if moves unit item.old then item_stays step.dx step.dy item.old else true) ≡ true }
+    requires stays { (if moves unit item.old then item_stays step.dx step.dy item.old else true)
+        ≡ true }
     ensures { IsMovedItem unit step.dx step.dy item.old item.new }
 {
     if moves(item, unit) {

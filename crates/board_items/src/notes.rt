@@ -2,14 +2,15 @@
 
 ghost use Rattle.std.specs.Prelude.{◌≡◌, ◌<◌, ◌++◌, ◌∷◌, [], true, length, get_or};
 ghost use Rattle.std.specs.Option.{option_copied};
-ghost use Rattle.board_items.specs.Slots.{present, IsUnitIn, AreUnitsIn, UnitsRise};
-ghost use Rattle.board_items.specs.Notes.{is_body_of, body_before, only_body};
+ghost use Rattle.board_items.specs.ItemSlots.{present, IsUnitIn, AreUnitsIn, UnitsRise};
+ghost use Rattle.board_items.specs.ItemNotes.{is_body_of, body_before, only_body};
 
 use crate::item::Item;
 
 /// Whether the row is in order with one more unit behind the others.
 pub(crate) fn goes_on(in_order: bool, units: &[u32], unit: u32) -> bool
-    ensures { (in_order ≡ true → UnitsRise 0 units.now) → result ≡ true → UnitsRise 0 (units.now ++ unit ∷
+    ensures { (in_order ≡ true → UnitsRise 0 units.now) → result ≡ true
+        → UnitsRise 0 (units.now ++ unit ∷
         []) }
 {
     let Some(last) = units.last() else {

@@ -3,7 +3,7 @@
 ghost use Rattle.std.specs.Prelude.{◌≡◌, ◌<◌, ◌≤◌, true, length};
 ghost use Rattle.std.specs.List.{AllWithin};
 ghost use Rattle.board_items.specs.Boards.{IsSound};
-ghost use Rattle.board_items.specs.Slots.{UnitsRise, ArePlacesOf, HaveIdsIn};
+ghost use Rattle.board_items.specs.ItemSlots.{UnitsRise, ArePlacesOf, HaveIdsIn};
 
 use crate::board::Board;
 

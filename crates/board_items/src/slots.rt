@@ -3,7 +3,7 @@
 ghost use Rattle.std.specs.Prelude.{◌≡◌, ◌+◌, ◌<◌, ◌≤◌, [], true, None, Some, not, nat_eq, filter, length, slice_get, MatchOption, if◌then◌else◌};
 ghost use Rattle.std.specs.Option.{option_copied};
 ghost use Rattle.board_items.specs.Boards.{item_at};
-ghost use Rattle.board_items.specs.Slots.{present, at_slot, IsNext, IsUnitIn, are_units_in, unit_items, only_of, IsNextOf};
+ghost use Rattle.board_items.specs.ItemSlots.{present, at_slot, IsNext, IsUnitIn, are_units_in, unit_items, only_of, IsNextOf};
 
 use crate::item::Item;
 
@@ -63,7 +63,7 @@ pub(crate) fn next_of_unit<'a>(
     first: u32,
     unit: u32,
 ) -> Option<(u32, &'a Item, &'a [Option<Item>], &'a [u32])>
-    requires room { first + length slots.now ≤ 4294967295 }
+    requires spare_capacity { first + length slots.now ≤ 4294967295 }
     requires units_in { are_units_in slots.now units.now ≡ true }
     ensures { MatchOption result (unit_items unit first slots.now ≡ [])
         (λ next. IsNextOf unit first slots.now next.0 next.1.now next.2.now next.3.now) }
@@ -92,7 +92,8 @@ pub(crate) fn drop_id(ids: &mut Vec<u32>, id: u32)
 
 /// Drops it where it may be in the list.
 pub(crate) fn drop_if(ids: &mut Vec<u32>, id: u32, listed: bool)
-    ensures { ids.new.items ≡ (if listed then filter (λ other. not (nat_eq other id)) ids.old.items else
+    ensures { ids.new.items ≡ (if listed then filter (λ other.
+        not (nat_eq other id)) ids.old.items else
         ids.old.items) }
 {
     if listed {

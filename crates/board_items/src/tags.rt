@@ -5,7 +5,7 @@ ghost use Rattle.std.specs.Prelude.{◌≡◌, ◌≤◌, [], true, length, Matc
 ghost use Rattle.std.specs.Option.{option_copied};
 ghost use Rattle.board_items.specs.Boards.{IsSound};
 ghost use Rattle.board_items.specs.Tags.{tag_next, tag_from, tag_of, are_tags_in, all_named, named_from, only_named, IsNextNamed};
-ghost use Rattle.board_items.specs.Walks.{named_left};
+ghost use Rattle.board_items.specs.BoardIterators.{named_left};
 
 use crate::board::Board;
 use crate::item::Item;
@@ -59,7 +59,7 @@ pub(crate) fn next_named<'a>(
     tag: u32,
     name: &Name,
 ) -> Option<(u32, &'a Item)>
-    requires room { length slots.now ≤ 4294967295 }
+    requires spare_capacity { length slots.now ≤ 4294967295 }
     requires tags_in { are_tags_in slots.now tags.now ≡ true }
     requires tag { tag ≡ tag_of name.now }
     ensures { MatchOption result (named_from name.now first slots.now ≡ [])

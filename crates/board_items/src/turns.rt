@@ -1,7 +1,7 @@
 //! Quarter turns.
 
 ghost use Rattle.std.specs.Prelude.{◌≡◌, ◌<◌, ◌≤◌, unsigned_abs};
-ghost use Rattle.board_items.specs.Turns.{turned};
+ghost use Rattle.board_items.specs.QuarterTurns.{turned};
 
 use crate::item::Nm;
 

@@ -1,7 +1,7 @@
 //! Units: the items that came from one list of the board file.
 
 ghost use Rattle.std.specs.Prelude.{◌≡◌};
-ghost use Rattle.board_items.specs.Walks.{named_left, unit_left};
+ghost use Rattle.board_items.specs.BoardIterators.{named_left, unit_left};
 ghost use Rattle.board_items.specs.Units.{found_of, is_body, has_other_unit, has_body_named_otherwise, is_footprint_named_otherwise};
 
 use crate::board::Board;

@@ -1,7 +1,7 @@
 //! Iterators over a board.
 
 ghost use Rattle.std.specs.Prelude.{◌≡◌, ◌+◌, ◌≤◌, true, length};
-ghost use Rattle.board_items.specs.Slots.{are_units_in};
+ghost use Rattle.board_items.specs.ItemSlots.{are_units_in};
 ghost use Rattle.board_items.specs.Tags.{tag_of, are_tags_in};
 
 use crate::item::Item;
@@ -16,12 +16,12 @@ pub struct BoardIter<'a> {
     // the slots that are still to come, and the id of the first
     pub(crate) slots: &'a [Option<Item>],
     pub(crate) first: u32,
-    pub(crate) ghost room: { first + length slots.now ≤ 4294967295 },
+    pub(crate) ghost spare_capacity: { first + length slots.now ≤ 4294967295 },
 }
 
 impl<'a> Iterator for BoardIter<'a> {
     ghost use Rattle.std.specs.Iterator.{YieldsFirstBy, item_count};
-    ghost use Rattle.board_items.specs.Walks.{entry_of, items_left};
+    ghost use Rattle.board_items.specs.BoardIterators.{entry_of, items_left};
 
     type Item = (u32, &'a Item);
 
@@ -45,13 +45,13 @@ pub struct UnitIter<'a> {
     pub(crate) units: &'a [u32],
     pub(crate) first: u32,
     pub(crate) unit: u32,
-    pub(crate) ghost room: { first + length slots.now ≤ 4294967295 },
+    pub(crate) ghost spare_capacity: { first + length slots.now ≤ 4294967295 },
     pub(crate) ghost units_in: { are_units_in slots.now units.now ≡ true },
 }
 
 impl<'a> Iterator for UnitIter<'a> {
     ghost use Rattle.std.specs.Iterator.{YieldsFirstBy, item_count};
-    ghost use Rattle.board_items.specs.Walks.{entry_of, unit_left};
+    ghost use Rattle.board_items.specs.BoardIterators.{entry_of, unit_left};
 
     type Item = (u32, &'a Item);
 
@@ -77,14 +77,14 @@ pub(crate) struct NamedIter<'a> {
     pub(crate) first: u32,
     pub(crate) tag: u32,
     pub(crate) name: &'a Name,
-    pub(crate) ghost room: { length slots.now ≤ 4294967295 },
+    pub(crate) ghost spare_capacity: { length slots.now ≤ 4294967295 },
     pub(crate) ghost tags_in: { are_tags_in slots.now tags.now ≡ true },
     pub(crate) ghost own: { tag ≡ tag_of name.now },
 }
 
 impl<'a> Iterator for NamedIter<'a> {
     ghost use Rattle.std.specs.Iterator.{YieldsFirstBy, item_count};
-    ghost use Rattle.board_items.specs.Walks.{entry_of, named_left};
+    ghost use Rattle.board_items.specs.BoardIterators.{entry_of, named_left};
 
     type Item = (u32, &'a Item);
 
@@ -107,7 +107,7 @@ pub struct BoardNets<'a> {
 
 impl<'a> Iterator for BoardNets<'a> {
     ghost use Rattle.std.specs.Iterator.{YieldsFirstBy, item_count};
-    ghost use Rattle.board_items.specs.Walks.{net_of, nets_left};
+    ghost use Rattle.board_items.specs.BoardIterators.{net_of, nets_left};
 
     type Item = (u32, &'a Name);
 

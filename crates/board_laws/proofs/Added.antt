@@ -6,7 +6,7 @@ use Rattle.board_items.specs.declared.item.Item.{Item}
 use Rattle.board_items.specs.Boards.{PlainBoard, IsSound, with_item}
 use Rattle.board_laws.specs.Edits.{IsEdit}
 use Rattle.board_laws.proofs.Rest.{Entry}
-use Rattle.board_laws.proofs.Deeds.{same_at, up}
+use Rattle.board_laws.proofs.Operations.{same_at, up}
 
 -- the new entries stand behind the others, from the next id on
 pub record IsGrown (old new : PlainBoard) : Type 0 where

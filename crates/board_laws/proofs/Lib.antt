@@ -1,3 +1,3 @@
 pub mod Rest
-mod Deeds
+mod Operations
 mod Added

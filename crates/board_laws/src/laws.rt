@@ -5,7 +5,7 @@ ghost use Rattle.std.specs.List.{fold};
 ghost use Rattle.board_items.specs.declared.item.Item.{Item};
 ghost use Rattle.board_items.specs.Boards.{PlainBoard, IsSound, with_item};
 ghost use Rattle.board_items.specs.Units.{without_unit};
-ghost use Rattle.board_items.specs.Moves.{moves, IsMoved};
+ghost use Rattle.board_items.specs.ItemMoves.{moves, IsMoved};
 ghost use Rattle.board_items.specs.Back.{IsPutBack};
 ghost use Rattle.board_laws.specs.Edits.{IsEdit, other_entries};
 
@@ -34,14 +34,16 @@ pub fn added()
 
 /// A move of a unit is an edit of the ids of its items that move.
 pub fn moved()
-    ensures { (unit : ℕ) (dx dy : ℤ) (old new : PlainBoard) (ids : List ℕ) → IsSound old → IsSound new →
+    ensures { (unit : ℕ) (dx dy : ℤ) (old new : PlainBoard) (ids : List ℕ) → IsSound old
+        → IsSound new →
         IsMoved unit dx dy old new → ((e : ℕ × Item) → Contains old.items e →
         moves unit e.1 ≡ true → Contains ids e.0) → IsEdit old new ids }
 {}
 
 /// A move that is taken back is an edit of the same ids.
 pub fn moved_back()
-    ensures { (unit : ℕ) (dx dy : ℤ) (old new : PlainBoard) (ids : List ℕ) → IsSound old → IsSound new →
+    ensures { (unit : ℕ) (dx dy : ℤ) (old new : PlainBoard) (ids : List ℕ) → IsSound old
+        → IsSound new →
         IsMoved unit dx dy old new → ((e : ℕ × Item) → Contains old.items e →
         moves unit e.1 ≡ true → Contains ids e.0) → IsEdit new old ids }
 {}
@@ -53,6 +55,7 @@ pub fn turned_round()
 
 /// The entries of other ids are the same list, before and after.
 pub fn rest_same()
-    ensures { (old new : PlainBoard) (ids : List ℕ) → IsEdit old new ids → other_entries ids new.items
+    ensures { (old new : PlainBoard) (ids : List ℕ) → IsEdit old new ids
+        → other_entries ids new.items
         ≡ other_entries ids old.items }
 {}

@@ -8,12 +8,12 @@ use Rattle.board_items.specs.declared.found.Found.TheVariants.{Shared, Inside, U
 use Rattle.board_items.specs.declared.item.Item.{Item}
 use Rattle.board_items.specs.Boards.{PlainBoard, IsSound, UnitsBelow}
 use Rattle.board_items.specs.Units.{first_named, is_shared, is_footprint_named_otherwise, found_by, found_of}
-use Rattle.roundtrip_lists.specs.Alike.{Shift}
-use Rattle.roundtrip_boards.specs.Changes.{IsNamed, takes_out, shifts}
-use Rattle.roundtrip_boards.specs.Written.{Draft, with_change, is_gone, plus, summed, shift_of_unit}
+use Rattle.roundtrip_lists.specs.Translated.{Shift}
+use Rattle.roundtrip_boards.specs.TextChanges.{IsNamed, takes_out, shifts}
+use Rattle.roundtrip_boards.specs.WrittenBoard.{Draft, with_change, is_gone, plus, summed, shift_of_unit}
 use Rattle.board_write.specs.declared.marks.Mark.{Mark}
 use Rattle.board_write.specs.declared.marks.Mark.TheVariants.{Stays, Gone}
-use Rattle.board_write.specs.Marks.{PlainMark, stays, gone, moves, plain_mark, mark_at, mark_by, AreMarks, moved_on, IsMarkedOn, IsShort}
+use Rattle.board_write.specs.Marks.{PlainMark, stays, gone, moves, plain_mark, mark_at, mark_by, AreMarks, moved_on, IsMarkedOn, IsShortShift}
 
 -- ---- a name stands for a unit that is there
 
@@ -119,7 +119,7 @@ no_marks n v marks h = ap plain_mark (h v)
 
 -- ---- how far units were moved
 
-pub short_more : (many : ℕ) (mark : PlainMark) → IsShort many mark → IsShort (many + 1) mark
+pub short_more : (many : ℕ) (mark : PlainMark) → IsShortShift many mark → IsShortShift (many + 1) mark
 short_more many stays h = tt
 short_more many gone h = tt
 short_more many (moves by) h = let a = h.0 in let b = h.1 in (omega (arith, a), omega (arith, b))

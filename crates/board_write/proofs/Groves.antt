@@ -2,13 +2,13 @@
 use Rattle.std.proofs.Common.{◌≡◌, ◌∙◌, refl, sym, ap, ℕ, ◌<◌, ◌≤◌, arith, true, false, List, ◌∷◌, codes, Option, None, Some, ℤ}
 use Rattle.exact_dec.specs.Computed.{mm_cut_answer}
 use Rattle.sexpr_read.specs.Tree.{Forest, none, atom, list, Tree, leaf, branch, trees, parts, value, is_list, levels, levels_in}
-use Rattle.list_read.specs.Heads.{first_is, has_head}
-use Rattle.roundtrip_lists.specs.Alike.{Shift, is_place_head, both, moved_by, place_moved}
+use Rattle.list_read.specs.ListHeads.{first_is, has_head}
+use Rattle.roundtrip_lists.specs.Translated.{Shift, is_place_head, both, moved_by, place_moved}
 use Rattle.board_write.specs.declared.distance.Distance.{Distance}
 use Rattle.board_write.specs.declared.places.Moving.TheVariants.{Nothing, First, All}
 use Rattle.board_write.specs.Marks.{plain_shift}
 use Rattle.board_write.specs.Settings.{grove, inside, own_place, behind, unit_moving}
-use Rattle.board_write.specs.Places.{atom_moved, as_atom}
+use Rattle.board_write.specs.MovedPlaces.{atom_moved, as_atom}
 
 pub grove_trees : (f : Forest) → grove (trees f) ≡ f
 grove_trees none = refl

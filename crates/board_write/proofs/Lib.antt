@@ -2,7 +2,7 @@ pub mod Drafts
 pub mod Editing
 pub mod Groves
 pub mod Finish
-pub mod Fronts
+pub mod Prefixes
 pub mod Draws
 pub mod OneOutcome
 pub mod SetDown

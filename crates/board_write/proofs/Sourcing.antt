@@ -2,7 +2,7 @@
 use Rattle.std.proofs.Common.{◌≡◌, ◌∙◌, refl, sym, ap, subst, ◌⊎◌, inl, inr, ℕ, List, None, Result, Ok, Err}
 use Rattle.sexpr_read.specs.Tree.{Tree}
 use Rattle.sexpr_read.specs.Spelling.{Spells}
-use Rattle.sexpr_read.specs.Refusals.{refusal_of_one}
+use Rattle.sexpr_read.specs.TreeRefusals.{refusal_of_one}
 use Rattle.board_errors.specs.declared.errors.BoardError.{BoardError}
 use Rattle.board_errors.specs.declared.errors.BoardError.TheVariants.{Text, NotABoard, Version, Missing, BadNumber, OutOfBoard, Arc, Turned, PadShape, Ring, UnknownNet, UnknownLayer, ThickFill, TooMany, OutOfMemory as NoMemory}
 use Rattle.board_items.specs.Boards.{PlainBoard}
@@ -11,8 +11,8 @@ use Rattle.pcb_read.specs.BoardText.{BoardSays}
 use Rattle.pcb_read.proofs.Parting.{says_tree}
 use Rattle.board_write.specs.declared.error.WriteError.{WriteError}
 use Rattle.board_write.specs.declared.error.WriteError.TheVariants.{Board, OutOfMemory}
-use Rattle.board_write.specs.Answers.{IsCauseBefore}
-use Rattle.board_write.specs.Causes.{write_error}
+use Rattle.board_write.specs.WriteResults.{IsCauseBefore}
+use Rattle.board_write.specs.WriteErrors.{write_error}
 
 one_of_two : (e : BoardError) → (write_error e ≡ OutOfMemory) ⊎ (write_error e ≡ Board e)
 one_of_two (Text x) = inr refl

@@ -6,13 +6,13 @@ use Rattle.int_algebra.proofs.Scalars.{passed_wide}
 use Rattle.sexpr_read.specs.declared.view.Node.{Node}
 use Rattle.sexpr_read.specs.declared.view.Children.{Children}
 use Rattle.sexpr_read.specs.Tree.{Tree, parts, value}
-use Rattle.sexpr_read.specs.Views.{tree_of, trees_left}
-use Rattle.roundtrip_lists.specs.Alike.{is_place_head}
+use Rattle.sexpr_read.specs.TreeViews.{tree_of, trees_left}
+use Rattle.roundtrip_lists.specs.Translated.{is_place_head}
 use Rattle.board_write.specs.Marks.{PlainMark, moves, IsHeld}
 use Rattle.board_write.specs.declared.places.Number.{Number}
 use Rattle.board_write.specs.declared.places.Place.{Place}
 use Rattle.board_write.specs.Settings.{grove, inside}
-use Rattle.board_write.specs.Places.{atom_moved, as_atom, StandsIn}
+use Rattle.board_write.specs.MovedPlaces.{atom_moved, as_atom, StandsIn}
 use Rattle.board_write.proofs.Groves.{stands_is}
 
 -- a shift's distance, as it is passed to a call

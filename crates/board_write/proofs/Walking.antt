@@ -4,29 +4,29 @@ use Rattle.std.specs.Prelude.{nat_eq, ⊤}
 use Rattle.std.proofs.lemmas.Bool.{eqb-true, eq-eqb}
 use Rattle.sexpr_read.specs.declared.place.Span.{Span}
 use Rattle.sexpr_read.specs.Tree.{Forest, none, atom, list, Tree, leaf, branch, trees, span}
-use Rattle.sexpr_read.specs.Places.{StandBetween}
+use Rattle.sexpr_read.specs.TreePlaces.{StandBetween}
 use Rattle.board_errors.specs.declared.errors.BoardError.{BoardError}
 use Rattle.board_items.specs.declared.item.Item.{Item}
 use Rattle.board_items.specs.Boards.{PlainBoard, name_of, with_net, with_item}
-use Rattle.list_read.specs.Answers.{◌>>=◌}
-use Rattle.list_read.specs.Heads.{has_head, text_of}
-use Rattle.part_read.specs.Elements.{atom_of}
-use Rattle.part_read.specs.Numbers.{number_in}
+use Rattle.list_read.specs.FirstRefusals.{◌>>=◌}
+use Rattle.list_read.specs.ListHeads.{has_head, text_of}
+use Rattle.part_read.specs.ElementResults.{atom_of}
+use Rattle.part_read.specs.BoardNumbers.{number_in}
 use Rattle.copper_layers.specs.declared.set.LayerSet.{LayerSet}
-use Rattle.part_read.specs.LayersOf.{layers_listed}
-use Rattle.roundtrip_text.specs.Anew.{Fate, stays}
+use Rattle.part_read.specs.BoardLayers.{layers_listed}
+use Rattle.roundtrip_text.specs.RewrittenText.{Disposition, stays}
 use Rattle.pcb_read.specs.declared.sorts.Sort.{Sort}
 use Rattle.pcb_read.specs.Sorts.{sort_of}
 use Rattle.pcb_read.specs.Nets.{with_net_of}
 use Rattle.pcb_read.specs.BoardOf.{Reading, with_items, with_layers, with_board, with_other, SaysPartBy, SaysPart, SaysParts}
-use Rattle.pcb_read.specs.Spans.{with_span, SaysSpans}
-use Rattle.roundtrip_boards.specs.Written.{Draft, unit_fate, list_fate, FatesAre}
+use Rattle.pcb_read.specs.UnitSpans.{with_span, SaysSpans}
+use Rattle.roundtrip_boards.specs.WrittenBoard.{Draft, unit_disposition, list_disposition, DispositionsAre}
 use Rattle.roundtrip_boards.proofs.Plain.{one_next, atom_sort, atom_other}
 use Rattle.board_write.specs.declared.marks.Mark.{Mark}
 use Rattle.board_write.specs.declared.marks.Mark.TheVariants.{Stays}
 use Rattle.board_write.specs.Marks.{plain_mark, mark_at, mark_in}
-use Rattle.board_write.specs.Fates.{mark_fate, same_span, is_first, fates_by}
-use Rattle.board_write.proofs.Draws.{mark_is_fate}
+use Rattle.board_write.specs.Dispositions.{mark_disposition, same_span, is_first, dispositions_by}
+use Rattle.board_write.proofs.Draws.{mark_is_disposition}
 
 abbrev number : Reading → ℕ
 number r = r.board.next_unit
@@ -167,7 +167,7 @@ one_on [] zero = refl
 one_on [] (suc u) = refl
 one_on (m ∷ marks) u = refl
 
--- ---- the fates of lists
+-- ---- the dispositions of lists
 
 atom_same : (a next : Reading) (s : Span) (q : Bool) (c : List ℕ) → SaysPart a (leaf s q c) (Ok next) → next ≡ a
 atom_same a next s q c says =
@@ -181,27 +181,27 @@ module _ (text : List ℕ) (draft : Draft) (z : Reading) where
   abbrev Matched : Reading → List Mark → Type 0
   Matched a marks = (u : ℕ) → plain_mark (mark_at marks u) ≡ mark_in draft (number a + u)
 
-  pub fates_are : (f : Forest) (a : Reading) (from to : ℕ) (marks : List Mark) (spans : List Span) → StandBetween text from to f → SaysParts a (trees f) (Ok z) → SaysSpans a (trees f) spans → number a + length spans ≡ number z → Matched a marks
-      → FatesAre draft a (trees f) (fates_by marks spans (trees f))
-  fates_are none a from to marks spans stand says said count are = refl
-  fates_are (atom s q c g) a from to marks spans stand (inr (e, part, same)) said count are = absurd cc
-  fates_are (atom s q c g) a from to marks spans stand (inl (next, part, rest)) (other, others, told, more, is) count are =
+  pub dispositions_are : (f : Forest) (a : Reading) (from to : ℕ) (marks : List Mark) (spans : List Span) → StandBetween text from to f → SaysParts a (trees f) (Ok z) → SaysSpans a (trees f) spans → number a + length spans ≡ number z → Matched a marks
+      → DispositionsAre draft a (trees f) (dispositions_by marks spans (trees f))
+  dispositions_are none a from to marks spans stand says said count are = refl
+  dispositions_are (atom s q c g) a from to marks spans stand (inr (e, part, same)) said count are = absurd cc
+  dispositions_are (atom s q c g) a from to marks spans stand (inl (next, part, rest)) (other, others, told, more, is) count are =
       let here : next ≡ a = atom_same a next s q c part in
       let there : other ≡ a = atom_same a other s q c told in
       let own : nat_eq (number a) (number a) ≡ true = eq-eqb (number a) (number a) refl in
       let shape : spans ≡ others = is ∙ ap (λ (r : Reading). with_span a r (leaf s q c) others) there ∙ ap (λ (b : Bool). cond b others (s ∷ others)) own in
       let goes = subst (λ (r : Reading). SaysParts r (trees g) (Ok z)) here rest in
       let spans_go = subst (λ (l : List Span). SaysSpans a (trees g) l) (sym shape) (subst (λ (r : Reading). SaysSpans r (trees g) others) there more) in
-      (a, fates_by marks spans (trees g), atom_says a s q c, fates_are g a s.end to marks spans stand.3 goes spans_go count are, refl)
-  fates_are (list s i g) a from to marks spans stand (inr (e, part, same)) said count are = absurd cc
-  fates_are (list s i g) a from to marks spans stand (inl (next, part, rest)) (other, others, told, more, is) count are =
+      (a, dispositions_by marks spans (trees g), atom_says a s q c, dispositions_are g a s.end to marks spans stand.3 goes spans_go count are, refl)
+  dispositions_are (list s i g) a from to marks spans stand (inr (e, part, same)) said count are = absurd cc
+  dispositions_are (list s i g) a from to marks spans stand (inl (next, part, rest)) (other, others, told, more, is) count are =
       let equal : other ≡ next = one_next a next other (branch s i) part told in
       let spans_go = subst (λ (r : Reading). SaysSpans r (trees g) others) equal more in
-      by_test (nat_eq (number a) (number next)) refl (is ∙ ap (λ (r : Reading). with_span a r (branch s i) others) equal) spans_go (λ ms ss c m k. fates_are g next s.end to ms ss stand.3 rest k c m)
+      by_test (nat_eq (number a) (number next)) refl (is ∙ ap (λ (r : Reading). with_span a r (branch s i) others) equal) spans_go (λ ms ss c m k. dispositions_are g next s.end to ms ss stand.3 rest k c m)
     where
       by_test : (b : Bool) → nat_eq (number a) (number next) ≡ b → spans ≡ cond (nat_eq (number a) (number next)) others (s ∷ others) → SaysSpans next (trees g) others
-          → ((ms : List Mark) (ss : List Span) → number next + length ss ≡ number z → Matched next ms → SaysSpans next (trees g) ss → FatesAre draft next (trees g) (fates_by ms ss (trees g)))
-          → FatesAre draft a (branch s i ∷ trees g) (fates_by marks spans (branch s i ∷ trees g))
+          → ((ms : List Mark) (ss : List Span) → number next + length ss ≡ number z → Matched next ms → SaysSpans next (trees g) ss → DispositionsAre draft next (trees g) (dispositions_by ms ss (trees g)))
+          → DispositionsAre draft a (branch s i ∷ trees g) (dispositions_by marks spans (branch s i ∷ trees g))
       by_test true e is spans_go later =
           let shape : spans ≡ others = is ∙ ap (λ (b : Bool). cond b others (s ∷ others)) e in
           let same : number a ≡ number next = eqb-true (number a) (number next) e in
@@ -210,10 +210,10 @@ module _ (text : List ℕ) (draft : Draft) (z : Reading) where
           let goes = subst (λ (l : List Span). SaysSpans next (trees g) l) (sym shape) spans_go in
           let counted : number next + length spans ≡ number z = omega (arith, count, same) in
           let matched : Matched next marks = λ u. are u ∙ ap (λ (n : ℕ). mark_in draft (n + u)) same in
-          let stays_here : fates_by marks spans (branch s i ∷ trees g) ≡ stays ∷ fates_by marks spans (trees g) =
-          ap (λ (b : Bool). mark_fate (cond b (mark_at marks 0) Stays) i ∷ fates_by (cond b (drop 1 marks) marks) (cond b (drop 1 spans) spans) (trees g)) first in
-          let fate_here : list_fate draft a next i ≡ stays = ap (λ (b : Bool). cond b stays (unit_fate draft i (Some (number a)))) e in
-          (next, fates_by marks spans (trees g), part, later marks spans counted matched goes, stays_here ∙ ap (λ (x : Fate). x ∷ fates_by marks spans (trees g)) (sym fate_here))
+          let stays_here : dispositions_by marks spans (branch s i ∷ trees g) ≡ stays ∷ dispositions_by marks spans (trees g) =
+          ap (λ (b : Bool). mark_disposition (cond b (mark_at marks 0) Stays) i ∷ dispositions_by (cond b (drop 1 marks) marks) (cond b (drop 1 spans) spans) (trees g)) first in
+          let disposition_here : list_disposition draft a next i ≡ stays = ap (λ (b : Bool). cond b stays (unit_disposition draft i (Some (number a)))) e in
+          (next, dispositions_by marks spans (trees g), part, later marks spans counted matched goes, stays_here ∙ ap (λ (x : Disposition). x ∷ dispositions_by marks spans (trees g)) (sym disposition_here))
       by_test false e is spans_go later =
           let shape : spans ≡ s ∷ others = is ∙ ap (λ (b : Bool). cond b others (s ∷ others)) e in
           let long : length spans ≡ suc (length others) = ap length shape in
@@ -227,14 +227,14 @@ module _ (text : List ℕ) (draft : Draft) (z : Reading) where
           let at : number a + suc u ≡ number next + u = omega (arith, one) in
           ap plain_mark (one_on marks u) ∙ are (suc u) ∙ ap (mark_in draft) at in
           let zero_on : number a + 0 ≡ number a = omega arith in
-          let fate_is : mark_fate (mark_at marks 0) i ≡ unit_fate draft i (Some (number a)) = mark_is_fate draft (mark_at marks 0) (number a) i (are 0 ∙ ap (mark_in draft) zero_on) in
-          let unit_here : fates_by marks spans (branch s i ∷ trees g) ≡ mark_fate (mark_at marks 0) i ∷ fates_by (drop 1 marks) others (trees g) =
-          ap (λ (b : Bool). mark_fate (cond b (mark_at marks 0) Stays) i ∷ fates_by (cond b (drop 1 marks) marks) (cond b (drop 1 spans) spans) (trees g)) first
-          ∙ ap (λ (l : List Span). mark_fate (mark_at marks 0) i ∷ fates_by (drop 1 marks) (drop 1 l) (trees g)) shape in
-          let fate_here : list_fate draft a next i ≡ unit_fate draft i (Some (number a)) = ap (λ (b : Bool). cond b stays (unit_fate draft i (Some (number a)))) e in (
+          let disposition_is : mark_disposition (mark_at marks 0) i ≡ unit_disposition draft i (Some (number a)) = mark_is_disposition draft (mark_at marks 0) (number a) i (are 0 ∙ ap (mark_in draft) zero_on) in
+          let unit_here : dispositions_by marks spans (branch s i ∷ trees g) ≡ mark_disposition (mark_at marks 0) i ∷ dispositions_by (drop 1 marks) others (trees g) =
+          ap (λ (b : Bool). mark_disposition (cond b (mark_at marks 0) Stays) i ∷ dispositions_by (cond b (drop 1 marks) marks) (cond b (drop 1 spans) spans) (trees g)) first
+          ∙ ap (λ (l : List Span). mark_disposition (mark_at marks 0) i ∷ dispositions_by (drop 1 marks) (drop 1 l) (trees g)) shape in
+          let disposition_here : list_disposition draft a next i ≡ unit_disposition draft i (Some (number a)) = ap (λ (b : Bool). cond b stays (unit_disposition draft i (Some (number a)))) e in (
             next,
-            fates_by (drop 1 marks) others (trees g),
+            dispositions_by (drop 1 marks) others (trees g),
             part,
             later (drop 1 marks) others counted matched spans_go,
-            unit_here ∙ ap (λ (x : Fate). x ∷ fates_by (drop 1 marks) others (trees g)) (fate_is ∙ sym fate_here),
+            unit_here ∙ ap (λ (x : Disposition). x ∷ dispositions_by (drop 1 marks) others (trees g)) (disposition_is ∙ sym disposition_here),
           )

@@ -1,10 +1,10 @@
-pub mod Answers
-pub mod Causes
-pub mod Course
-pub mod Fates
+pub mod WriteResults
+pub mod WriteErrors
+pub mod EditState
+pub mod Dispositions
 pub mod Marks
 pub mod Opened
-pub mod Places
-pub mod Reasons
+pub mod MovedPlaces
+pub mod WriteReasons
 pub mod Settings
 pub mod Sources

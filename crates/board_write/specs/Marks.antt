@@ -1,7 +1,7 @@
 -- What has become of units, as the code keeps it: a mark for each by its number.
 use Rattle.std.specs.Prelude.{◌≡◌, ℕ, ◌≤◌, ◌*◌, ◌+ℤ◌, ℤ, Bool, true, false, List, Option, None, Some, slice_index_or, slice_set, unsigned_abs, ⊤}
-use Rattle.roundtrip_lists.specs.Alike.{Shift}
-use Rattle.roundtrip_boards.specs.Written.{Draft, is_gone, shift_of_unit}
+use Rattle.roundtrip_lists.specs.Translated.{Shift}
+use Rattle.roundtrip_boards.specs.WrittenBoard.{Draft, is_gone, shift_of_unit}
 use Rattle.board_write.specs.declared.distance.Distance.{Distance}
 use Rattle.board_write.specs.declared.marks.Mark.{Mark}
 use Rattle.board_write.specs.declared.marks.Mark.TheVariants.{Stays, Gone, Moved}
@@ -57,7 +57,7 @@ abbrev pub IsHeld : ℤ → Type 0
 IsHeld n = unsigned_abs n ≤ 9223372036854775808
 
 -- a shift of so many moves at most, each by distances of 64 bits
-abbrev pub IsShort : ℕ → PlainMark → Type 0
-IsShort many stays = ⊤
-IsShort many gone = ⊤
-IsShort many (moves by) = (unsigned_abs by.dx ≤ many * 9223372036854775808) × (unsigned_abs by.dy ≤ many * 9223372036854775808)
+abbrev pub IsShortShift : ℕ → PlainMark → Type 0
+IsShortShift many stays = ⊤
+IsShortShift many gone = ⊤
+IsShortShift many (moves by) = (unsigned_abs by.dx ≤ many * 9223372036854775808) × (unsigned_abs by.dy ≤ many * 9223372036854775808)

@@ -1,14 +1,14 @@
 -- The front of a list that is set down.
 use Rattle.std.specs.Prelude.{◌≡◌, ◌≤◌, ℕ, ◌+◌, true, List, ◌∷◌, ◌++◌}
 use Rattle.sexpr_read.specs.Tree.{Forest, Tree, span, quoted, levels_in}
-use Rattle.sexpr_read.specs.Views.{tree_of, trees_left}
+use Rattle.sexpr_read.specs.TreeViews.{tree_of, trees_left}
 use Rattle.roundtrip_text.specs.Pieces.{written}
 use Rattle.board_write.specs.declared.setting.Setting.{Setting}
 use Rattle.board_write.specs.declared.setting.Left.{Left}
 use Rattle.board_write.specs.declared.places.Place.{Place}
 use Rattle.board_write.specs.declared.places.Moving.{Moving}
-use Rattle.board_write.specs.Settings.{grove, inside, set_down, renewed, within, renewed_inside}
-use Rattle.board_write.specs.Places.{as_atom, as_number, content_of}
+use Rattle.board_write.specs.Settings.{grove, inside, set_down, updated, within, updated_inside}
+use Rattle.board_write.specs.MovedPlaces.{as_atom, as_number, content_of}
 
 -- an atom as it stands in its text
 abbrev pub atom_down : Tree → List ℕ
@@ -24,7 +24,7 @@ IsPlaced setting from place old new left =
     (left.parts ≡ place.rest) × ((to : ℕ) (others : Forest) → new ++ set_down setting left.from to left.is_first others ≡ old ++ set_down setting from to true (placed place others))
 
 -- the front of a list was written, and what is left is less deep
-pub record IsOpened (setting : Setting) (moving : Moving) (tree : Tree) (old new : List ℕ) (left : Left) : Type 0 where
-  pub text : (to : ℕ) → new ++ set_down setting left.from to left.is_first (renewed (within moving) (grove (trees_left left.parts)))
-      ≡ old ++ (40 ∷ set_down setting ((span tree).at + 1) to true (renewed_inside moving (inside tree)))
+pub record IsListOpened (setting : Setting) (moving : Moving) (tree : Tree) (old new : List ℕ) (left : Left) : Type 0 where
+  pub text : (to : ℕ) → new ++ set_down setting left.from to left.is_first (updated (within moving) (grove (trees_left left.parts)))
+      ≡ old ++ (40 ∷ set_down setting ((span tree).at + 1) to true (updated_inside moving (inside tree)))
   pub less : levels_in (grove (trees_left left.parts)) ≤ levels_in (inside tree)

@@ -2,12 +2,12 @@
 use Rattle.std.specs.Prelude.{ℕ, ◌+◌, ◌-◌, ℤ, Bool, true, false, List, [], ◌∷◌, ◌++◌, codes, Option, None, slice_range, if◌then◌else◌}
 use Rattle.sexpr_read.specs.declared.place.Span.{Span}
 use Rattle.sexpr_read.specs.Tree.{Forest, none, atom, list, Tree, leaf, branch, trees}
-use Rattle.list_read.specs.Heads.{first_is}
+use Rattle.list_read.specs.ListHeads.{first_is}
 use Rattle.roundtrip_text.specs.Pieces.{written}
-use Rattle.roundtrip_text.specs.Anew.{space_before}
-use Rattle.roundtrip_lists.specs.Alike.{place_moved}
+use Rattle.roundtrip_text.specs.RewrittenText.{space_before}
+use Rattle.roundtrip_lists.specs.Translated.{place_moved}
 use Rattle.roundtrip_lists.specs.Moving.{put_if, moved}
-use Rattle.roundtrip_boards.specs.Written.{first_at}
+use Rattle.roundtrip_boards.specs.WrittenBoard.{first_at}
 use Rattle.board_write.specs.declared.distance.Distance.{Distance}
 use Rattle.board_write.specs.declared.marks.Mark.{Mark}
 use Rattle.board_write.specs.declared.marks.Mark.TheVariants.{Stays, Gone, Moved}
@@ -48,10 +48,10 @@ set_down setting from to first (list s inside others) =
 -- ---- which places are moved
 
 -- the trees with no place moved, that of the first list with the head `at`, or all
-abbrev pub renewed : Moving → Forest → Forest
-renewed Nothing f = f
-renewed (First by) f = first_at (plain_shift by) f
-renewed (All by) f = moved (plain_shift by) f
+abbrev pub updated : Moving → Forest → Forest
+updated Nothing f = f
+updated (First by) f = first_at (plain_shift by) f
+updated (All by) f = moved (plain_shift by) f
 
 -- the place of a list that is moved
 abbrev pub own_place : Moving → Forest → Option (ℤ × ℤ)
@@ -72,8 +72,8 @@ behind (First by) f = if first_is (trees f) (codes "at") then Nothing else First
 behind (All by) f = All by
 
 -- what stands in a list, as it then is
-abbrev pub renewed_inside : Moving → Forest → Forest
-renewed_inside moving f = put_if (own_place moving f) (renewed (within moving) f)
+abbrev pub updated_inside : Moving → Forest → Forest
+updated_inside moving f = put_if (own_place moving f) (updated (within moving) f)
 
 -- a list by itself, with what stands in it
 abbrev pub list_down : Setting → Span → Forest → List ℕ
@@ -85,7 +85,7 @@ list_down setting s f = 40 ∷ (set_down setting (s.at + 1) (s.end - 1) true f +
 abbrev pub unit_moving : Distance → Forest → Moving
 unit_moving by f = if first_is (trees f) (codes "footprint") then First by else All by
 
--- a unit's list by what became of it: an added list, with its fate
+-- a unit's list by what became of it: an added list, with its disposition
 abbrev pub moving_by : Mark → Forest → Moving
 moving_by Stays f = Nothing
 moving_by Gone f = Nothing

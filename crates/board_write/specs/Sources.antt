@@ -2,14 +2,14 @@
 use Rattle.std.specs.Prelude.{◌≡◌, ℕ, ◌≤◌, List, length, None, Ok}
 use Rattle.sexpr_read.specs.Tree.{levels}
 use Rattle.sexpr_read.specs.Spelling.{Spells}
-use Rattle.sexpr_read.specs.Refusals.{refusal_of_one}
-use Rattle.sexpr_read.specs.Views.{root_of}
+use Rattle.sexpr_read.specs.TreeRefusals.{refusal_of_one}
+use Rattle.sexpr_read.specs.TreeViews.{root_of}
 use Rattle.pcb_read.specs.BoardOf.{SaysBoard}
-use Rattle.pcb_read.specs.Spans.{AreSpans}
+use Rattle.pcb_read.specs.UnitSpans.{AreSpans}
 use Rattle.edit_script.specs.Commands.{PlainCommand}
 use Rattle.board_write.specs.declared.source.SourceText.{SourceText}
 use Rattle.board_write.specs.declared.written.Written.{Written}
-use Rattle.board_write.specs.Answers.{Outcome}
+use Rattle.board_write.specs.WriteResults.{Outcome}
 
 pub record IsSource (text : List ℕ) (source : SourceText) : Type 0 where
   pub accepted : refusal_of_one text ≡ None

@@ -12,20 +12,20 @@ use std::fmt;
 pub enum WriteError {
     /// The text is none of a board. Nothing was written.
     Board(BoardError),
-    /// The sink failed, and a front part of the text was written.
+    /// The sink failed, and a prefix of the text was written.
     Failed,
     /// Memory ran out, before anything was written.
     OutOfMemory,
 }
 
 impl HasReason for WriteError {
-    ghost use Rattle.board_write.specs.Reasons.{write_reason};
+    ghost use Rattle.board_write.specs.WriteReasons.{write_reason};
 
     ghost reason_of = { write_reason };
 
     ghost depth = { 3 };
 
-    /// What it is called, its number and the byte of the text at which a board is refused. Want of memory has no number,
+    /// What it is called, its number and the byte of the text at which a board is refused. Running out of memory has no number,
     /// which is written 0.
     fn reason(&self) -> Reason {
         match self {
@@ -38,7 +38,7 @@ impl HasReason for WriteError {
 
 impl From<BoardError> for WriteError {
     ghost use Rattle.std.specs.Prelude.{◌≡◌};
-    ghost use Rattle.board_write.specs.Causes.{write_error};
+    ghost use Rattle.board_write.specs.WriteErrors.{write_error};
 
     ghost from_gives = { λ why e. e ≡ write_error why };
 
@@ -75,7 +75,7 @@ impl From<Failed> for WriteError {
 impl fmt::Display for WriteError {
     ghost use Rattle.std.specs.Prelude.{Some};
     ghost use Rattle.plain_types.specs.Reasons.{written};
-    ghost use Rattle.board_write.specs.Reasons.{write_reason};
+    ghost use Rattle.board_write.specs.WriteReasons.{write_reason};
 
     ghost output = { λ e. Some (written (write_reason e)) };
 

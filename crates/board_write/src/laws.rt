@@ -2,18 +2,19 @@
 
 ghost use Rattle.std.specs.Prelude.{◌≡◌, ℕ, List};
 ghost use Rattle.edit_script.specs.Commands.{PlainCommand};
-ghost use Rattle.board_write.specs.Answers.{Outcome};
+ghost use Rattle.board_write.specs.WriteResults.{Outcome};
 
-use board_edits::laws::{one_board, one_deed};
+use board_edits::laws::{one_board, one_operation};
 use pcb_read::laws::one_reading;
 use sexpr_read::laws::one_tree;
 
 /// A text and commands have one outcome.
 pub fn one_outcome()
-    ensures { (text : List ℕ) (commands : List PlainCommand) (m n : ℕ) (a : Outcome text commands m) (b : Outcome text commands n) → (m ≡ n) × (a.out ≡ b.out) }
+    ensures { (text : List ℕ) (commands : List PlainCommand) (m n : ℕ) (a : Outcome text commands m)
+        (b : Outcome text commands n) → (m ≡ n) × (a.out ≡ b.out) }
 {
     one_tree();
     one_reading();
-    one_deed();
+    one_operation();
     one_board();
 }

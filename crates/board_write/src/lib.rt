@@ -1,6 +1,6 @@
 //! The text of a board after commands: byte for byte what it was, but for the lists of units that were taken out, moved or added.
 //!
-//! The list of a unit that was taken out is left out. In that of one that was moved, places are written anew, in millimetres with
+//! The list of a unit that was taken out is left out. In that of one that was moved, places are rewritten, in millimetres with
 //! six digits: of a footprint its own, of another unit those of all lists at any depth. Lists that were added stand last in the list of
 //! the board, each behind one space, with one space between its parts. What the text is, is defined in `roundtrip_boards`'s `IsWritten`.
 #![tactic(auto)]
@@ -10,12 +10,12 @@ ghost use Rattle.board_errors.specs.declared.errors.BoardError.{BoardError};
 ghost use Rattle.edit_script.specs.Commands.{plain_command};
 ghost use Rattle.edit_script.specs.Fits.{Fits};
 ghost use Rattle.pcb_read.specs.BoardText.{BoardSays};
-ghost use Rattle.board_write.specs.Answers.{Wrote, IsCause};
+ghost use Rattle.board_write.specs.WriteResults.{WroteWhole, IsCause};
 ghost use Rattle.board_write.specs.Sources.{IsSource};
 ghost use Rattle.board_write.specs.declared.error.WriteError.{WriteError};
 
-mod course;
 mod distance;
+mod edit_state;
 mod error;
 pub mod laws;
 mod marks;
@@ -48,8 +48,13 @@ pub fn write_board<W: Sink>(
     requires text { length text.now ≤ 33_554_432 }
     requires few { length commands.now < 4_294_967_295 }
     requires fit { All Fits (map plain_command commands.now) }
-    ensures written { MatchResult result (Wrote text.now (map plain_command commands.now) (W.written out.old) (W.written out.new)) (IsCause text.now (map plain_command commands.now) (W.written out.old) (W.written out.new) (W.faults out.old) (W.faults out.new)) }
-    ensures refused { (why : BoardError) → BoardSays text.now (Err why) → (result ≡ Err (WriteError.Board why)) ⊎ (result ≡ Err WriteError.OutOfMemory) }
+    ensures written { MatchResult result
+        (WroteWhole text.now (map plain_command commands.now) (W.written out.old)
+        (W.written out.new))
+        (IsCause text.now (map plain_command commands.now) (W.written out.old) (W.written out.new)
+        (W.faults out.old) (W.faults out.new)) }
+    ensures refused { (why : BoardError) → BoardSays text.now (Err why)
+        → (result ≡ Err (WriteError.Board why)) ⊎ (result ≡ Err WriteError.OutOfMemory) }
     ensures counts { W.faults out.old ≤ W.faults out.new }
 {
     let source = read_source(alloc, text)?;
@@ -68,7 +73,11 @@ pub fn write_source<W: Sink>(
     requires read { IsSource text.now source }
     requires few { length commands.now < 4_294_967_295 }
     requires fit { All Fits (map plain_command commands.now) }
-    ensures written { MatchResult result (Wrote text.now (map plain_command commands.now) (W.written out.old) (W.written out.new)) (IsCause text.now (map plain_command commands.now) (W.written out.old) (W.written out.new) (W.faults out.old) (W.faults out.new)) }
+    ensures written { MatchResult result
+        (WroteWhole text.now (map plain_command commands.now) (W.written out.old)
+        (W.written out.new))
+        (IsCause text.now (map plain_command commands.now) (W.written out.old) (W.written out.new)
+        (W.faults out.old) (W.faults out.new)) }
     ensures read { (why : BoardError) → result ≡ Err (WriteError.Board why) → ⊥ }
     ensures counts { W.faults out.old ≤ W.faults out.new }
 {

@@ -2,7 +2,7 @@
 
 ghost use Rattle.std.specs.Prelude.{◌≡◌, ◌<◌, length, slice_set};
 ghost use Rattle.board_write.specs.declared.marks.Mark.{Mark};
-ghost use Rattle.board_write.specs.Marks.{plain_mark, mark_at, mark_of_unit, moved_on, IsHeld, IsShort, IsMarkedOn};
+ghost use Rattle.board_write.specs.Marks.{plain_mark, mark_at, mark_of_unit, moved_on, IsHeld, IsShortShift, IsMarkedOn};
 
 use crate::distance::Distance;
 use edit_script::Nm;
@@ -37,7 +37,7 @@ pub(crate) fn mark_at(marks: &[Mark], unit: usize) -> Mark
 
 /// A mark after one more move.
 fn moved_on(mark: Mark, dx: Nm, dy: Nm) -> Mark
-    requires { IsShort 4294967294 (plain_mark mark) }
+    requires { IsShortShift 4294967294 (plain_mark mark) }
     ensures { plain_mark result ≡ moved_on dx dy (plain_mark mark) }
 {
     match mark {
@@ -64,7 +64,7 @@ pub(crate) fn note_gone(marks: &mut [Mark], unit: u32)
 /// Marks that the unit was moved once more.
 pub(crate) fn note_move(marks: &mut [Mark], unit: u32, dx: Nm, dy: Nm)
     requires unit { unit < length marks.old }
-    requires short { IsShort 4294967294 (plain_mark (mark_at marks.old unit)) }
+    requires short { IsShortShift 4294967294 (plain_mark (mark_at marks.old unit)) }
     ensures marked { IsMarkedOn dx dy unit marks.old marks.new }
     ensures held { IsHeld dx × IsHeld dy }
 {

@@ -2,11 +2,11 @@
 
 ghost use Rattle.std.specs.Prelude.{◌≡◌, ◌≤◌, unsigned_abs, IfSome, option_map, Some};
 ghost use Rattle.sexpr_read.specs.Tree.{value};
-ghost use Rattle.sexpr_read.specs.Views.{tree_of};
-ghost use Rattle.roundtrip_lists.specs.Alike.{is_place_head, place_moved, both};
+ghost use Rattle.sexpr_read.specs.TreeViews.{tree_of};
+ghost use Rattle.roundtrip_lists.specs.Translated.{is_place_head, place_moved, both};
 ghost use Rattle.board_write.specs.Marks.{plain_shift};
 ghost use Rattle.board_write.specs.Settings.{inside};
-ghost use Rattle.board_write.specs.Places.{atom_moved, numbers_of, StandsIn};
+ghost use Rattle.board_write.specs.MovedPlaces.{atom_moved, list_numbers, StandsIn};
 
 use crate::distance::Distance;
 use exact_dec::{Nm, mm_cut};
@@ -74,8 +74,10 @@ fn both<'d, 't>(
     y: Option<Number<'d, 't>>,
     rest: Children<'d, 't>,
 ) -> Option<Place<'d, 't>>
-    ensures numbers { option_map numbers_of result ≡ both (option_map (λ number. number.nm) x.entry) (option_map (λ number. number.nm) y.entry) }
-    ensures place { IfSome result (λ place. (x.entry ≡ Some place.x) × (y.entry ≡ Some place.y) × (place.head ≡ head.entry) × (place.rest ≡ rest.entry)) }
+    ensures numbers { option_map list_numbers result ≡ both (option_map (λ number.
+        number.nm) x.entry) (option_map (λ number. number.nm) y.entry) }
+    ensures place { IfSome result (λ place. (x.entry ≡ Some place.x) × (y.entry ≡ Some place.y)
+        × (place.head ≡ head.entry) × (place.rest ≡ rest.entry)) }
 {
     match x {
         None => None,
@@ -88,7 +90,8 @@ fn both<'d, 't>(
 
 /// The place of a list, moved, if it has one of which both numbers can be.
 fn place_of<'d, 't>(list: Node<'d, 't>, by: Distance) -> Option<Place<'d, 't>>
-    ensures numbers { option_map numbers_of result ≡ place_moved (plain_shift by) (inside (tree_of list.entry)) }
+    ensures numbers { option_map list_numbers result
+        ≡ place_moved (plain_shift by) (inside (tree_of list.entry)) }
     ensures stands { IfSome result (StandsIn (inside (tree_of list.entry))) }
 {
     let mut rest = list.children();
@@ -103,12 +106,12 @@ fn place_of<'d, 't>(list: Node<'d, 't>, by: Distance) -> Option<Place<'d, 't>>
 
 impl Moving {
     ghost use Rattle.std.specs.Prelude.{◌≡◌, IfSome, option_map};
-    ghost use Rattle.sexpr_read.specs.Views.{tree_of};
+    ghost use Rattle.sexpr_read.specs.TreeViews.{tree_of};
     ghost use Rattle.board_write.specs.Settings.{inside, own_place, within, behind, unit_moving};
-    ghost use Rattle.board_write.specs.Places.{numbers_of, StandsIn};
+    ghost use Rattle.board_write.specs.MovedPlaces.{list_numbers, StandsIn};
 
     /// What is moved in the list of a unit: in a footprint its own place, in another all of them.
-    pub fn of_unit(list: Node<'_, '_>, by: Distance) -> Moving
+    pub(crate) fn of_unit(list: Node<'_, '_>, by: Distance) -> Moving
         ensures { result ≡ unit_moving by (inside (tree_of list.entry)) }
     {
         if has_head(list, b"footprint") {
@@ -119,8 +122,9 @@ impl Moving {
     }
 
     /// The place of a list itself, if it is moved.
-    pub fn own_place<'d, 't>(self, list: Node<'d, 't>) -> Option<Place<'d, 't>>
-        ensures numbers { option_map numbers_of result ≡ own_place self (inside (tree_of list.entry)) }
+    pub(crate) fn own_place<'d, 't>(self, list: Node<'d, 't>) -> Option<Place<'d, 't>>
+        ensures numbers { option_map list_numbers result
+            ≡ own_place self (inside (tree_of list.entry)) }
         ensures stands { IfSome result (StandsIn (inside (tree_of list.entry))) }
     {
         match self {
@@ -137,7 +141,7 @@ impl Moving {
     }
 
     /// What is moved in a list, its own place aside.
-    pub fn within(self) -> Moving
+    pub(crate) fn within(self) -> Moving
         ensures { result ≡ within self }
     {
         match self {
@@ -147,7 +151,7 @@ impl Moving {
     }
 
     /// What is moved behind a list.
-    pub fn behind(self, list: Node<'_, '_>) -> Moving
+    pub(crate) fn behind(self, list: Node<'_, '_>) -> Moving
         ensures { result ≡ behind self (inside (tree_of list.entry)) }
     {
         match self {

@@ -2,12 +2,12 @@
 
 ghost use Rattle.std.specs.Prelude.{◌≡◌, ◌++◌, ◌+◌, ◌-◌, false, drop, IfOk, OnOk, All};
 ghost use Rattle.sexpr_read.specs.Tree.{none, span, parts};
-ghost use Rattle.sexpr_read.specs.Views.{tree_of, root_of};
-ghost use Rattle.roundtrip_text.specs.Anew.{list_by, edited, edited_whole, spaced};
+ghost use Rattle.sexpr_read.specs.TreeViews.{tree_of, root_of};
+ghost use Rattle.roundtrip_text.specs.RewrittenText.{list_by, edited, edited_whole, spaced};
 ghost use Rattle.board_write.specs.Settings.{inside, moving_by};
-ghost use Rattle.board_write.specs.Fates.{mark_fate, is_first, mark_here, spans_behind, marks_behind, fates_by, IsAlone, added_by, one_down, one_by};
+ghost use Rattle.board_write.specs.Dispositions.{mark_disposition, is_first, mark_here, spans_behind, marks_behind, dispositions_by, IsAlone, added_by, one_down, one_by};
 
-use crate::course::AddedList;
+use crate::edit_state::AddedList;
 use crate::marks::{Mark, mark_at, mark_of};
 use crate::places::Moving;
 use crate::setting::{Setting, append, append_atom, append_list, end_inside, piece};
@@ -59,7 +59,8 @@ fn mark_here(units: Units<'_>, span: Span) -> Mark
 /// The units behind the list at the span.
 fn behind<'a>(units: Units<'a>, span: Span) -> Units<'a>
     ensures spans { result.spans.now ≡ spans_behind units.entry.spans.now span }
-    ensures marks { result.marks.now ≡ marks_behind units.entry.marks.now units.entry.spans.now span }
+    ensures marks { result.marks.now
+        ≡ marks_behind units.entry.marks.now units.entry.spans.now span }
 {
     if begin_at(units.spans, span) {
         Units {
@@ -78,7 +79,9 @@ fn append_marked(
     list: Node<'_, '_>,
     mark: Mark,
 ) -> Result<(), AllocError>
-    ensures { OnOk result (out.new.items ≡ out.old.items ++ list_by text.now (span (tree_of list.entry)) (mark_fate mark (inside (tree_of list.entry)))) }
+    ensures { OnOk result (out.new.items
+        ≡ out.old.items ++ list_by text.now (span (tree_of list.entry))
+        (mark_disposition mark (inside (tree_of list.entry)))) }
 {
     let span = list.span();
     match mark {
@@ -98,8 +101,11 @@ fn append_inside(
     root: Node<'_, '_>,
     units: Units<'_>,
 ) -> Result<(), AllocError>
-    ensures { OnOk result (out.new.items ≡ out.old.items ++ edited text.now ((span (tree_of root.entry)).at + 1) ((span (tree_of root.entry)).end - 1)
-        (fates_by units.entry.marks.now units.entry.spans.now (parts (tree_of root.entry))) (inside (tree_of root.entry))) }
+    ensures { OnOk result (out.new.items
+        ≡ out.old.items ++ edited text.now ((span (tree_of root.entry)).at
+        + 1) ((span (tree_of root.entry)).end - 1)
+        (dispositions_by units.entry.marks.now units.entry.spans.now (parts (tree_of root.entry)))
+        (inside (tree_of root.entry))) }
 {
     let whole = root.span();
     let mut from = whole.at as usize + 1;
@@ -131,7 +137,8 @@ fn moving_by(mark: Mark, list: Node<'_, '_>) -> Moving
 /// Appends an added list that was not taken out.
 fn append_spaced(out: &mut Vec<u8>, list: Node<'_, '_>, mark: Mark) -> Result<(), AllocError>
     requires { mark ≡ Mark.Gone → ⊥ }
-    ensures { OnOk result (out.new.items ≡ out.old.items ++ spaced false (one_by mark (tree_of list.entry) none)) }
+    ensures { OnOk result (out.new.items
+        ≡ out.old.items ++ spaced false (one_by mark (tree_of list.entry) none)) }
 {
     let moving = moving_by(mark, list);
     append(out, b" ")?;
@@ -161,7 +168,8 @@ fn append_added(
     marks: &[Mark],
 ) -> Result<(), AllocError>
     requires { All IsAlone added.now }
-    ensures { OnOk result (out.new.items ≡ out.old.items ++ spaced false (added_by marks.now added.now)) }
+    ensures { OnOk result (out.new.items
+        ≡ out.old.items ++ spaced false (added_by marks.now added.now)) }
 {
     for one in added {
         append_one(out, one, marks)?;
@@ -178,7 +186,9 @@ pub(crate) fn text_after(
     added: &[AddedList<'_>],
 ) -> Result<Vec<u8>, AllocError>
     requires { All IsAlone added.now }
-    ensures { IfOk result (λ whole. whole.items ≡ edited_whole text.now (span (root_of doc.now)) (fates_by units.entry.marks.now units.entry.spans.now (parts (root_of doc.now)))
+    ensures { IfOk result (λ whole.
+        whole.items ≡ edited_whole text.now (span (root_of doc.now))
+        (dispositions_by units.entry.marks.now units.entry.spans.now (parts (root_of doc.now)))
         (inside (root_of doc.now)) (added_by units.entry.marks.now added.now)) }
 {
     let root = doc.root();

@@ -1,13 +1,13 @@
 //! Trees that are set down, with places in them moved.
 
 ghost use Rattle.std.specs.Prelude.{◌≡◌, ◌++◌, ◌≤◌, ◌-◌, unsigned_abs, slice_range, IfOk, OnOk};
-ghost use Rattle.exact_dec.specs.Written.{mm_text};
+ghost use Rattle.exact_dec.specs.MillimetreText.{mm_text};
 ghost use Rattle.sexpr_read.specs.Tree.{quoted, span};
-ghost use Rattle.sexpr_read.specs.Views.{tree_of, trees_left};
+ghost use Rattle.sexpr_read.specs.TreeViews.{tree_of, trees_left};
 ghost use Rattle.roundtrip_text.specs.Pieces.{written};
-ghost use Rattle.board_write.specs.Settings.{grove, inside, set_down, renewed, list_down};
-ghost use Rattle.board_write.specs.Opened.{atom_down, IsPlaced, IsOpened};
-ghost use Rattle.board_write.specs.Places.{content_of};
+ghost use Rattle.board_write.specs.Settings.{grove, inside, set_down, updated, list_down};
+ghost use Rattle.board_write.specs.Opened.{atom_down, IsPlaced, IsListOpened};
+ghost use Rattle.board_write.specs.MovedPlaces.{content_of};
 
 use crate::places::{Moving, Number, Place};
 use exact_dec::write_mm;
@@ -97,7 +97,8 @@ pub(crate) fn append_atom(out: &mut Vec<u8>, atom: Node<'_, '_>) -> Result<(), A
 /// Appends a number in the place of an atom.
 fn append_number(out: &mut Vec<u8>, number: Number<'_, '_>) -> Result<(), AllocError>
     requires { unsigned_abs number.nm ≤ 1000000000000 }
-    ensures { OnOk result (out.new.items ≡ out.old.items ++ written (quoted (tree_of number.entry.atom)) (mm_text number.entry.nm)) }
+    ensures { OnOk result (out.new.items
+        ≡ out.old.items ++ written (quoted (tree_of number.entry.atom)) (mm_text number.entry.nm)) }
 {
     let mut bytes = [0; 16];
     let len = write_mm(number.nm, &mut bytes);
@@ -140,13 +141,14 @@ fn append_place<'d, 't>(
 }
 
 /// Appends the front of a list, its own place with it where that is moved, and gives what follows.
-fn append_front<'d, 't>(
+fn append_prefix<'d, 't>(
     out: &mut Vec<u8>,
     setting: Setting<'_>,
     list: Node<'d, 't>,
     moving: Moving,
 ) -> Result<Left<'d, 't>, AllocError>
-    ensures { IfOk result (IsOpened setting.entry moving (tree_of list.entry) out.old.items out.new.items) }
+    ensures { IfOk result (IsListOpened setting.entry moving
+        (tree_of list.entry) out.old.items out.new.items) }
 {
     append(out, b"(")?;
     let from = list.span().at as usize + 1;
@@ -168,7 +170,9 @@ fn append_parts(
     to: usize,
     moving: Moving,
 ) -> Result<(), AllocError>
-    ensures { OnOk result (out.new.items ≡ out.old.items ++ set_down setting.entry left.entry.from to left.entry.is_first (renewed moving (grove (trees_left left.entry.parts)))) }
+    ensures { OnOk result (out.new.items
+        ≡ out.old.items ++ set_down setting.entry left.entry.from to left.entry.is_first
+        (updated moving (grove (trees_left left.entry.parts)))) }
 {
     let mut from = left.from;
     let mut is_first = left.is_first;
@@ -177,7 +181,7 @@ fn append_parts(
         let span = part.span();
         append(out, setting.gap(from, span.at as usize, is_first))?;
         if part.is_list() {
-            let inside = append_front(out, setting, part, moving)?;
+            let inside = append_prefix(out, setting, part, moving)?;
             append_parts(out, setting, inside, end_inside(span), moving.within())?;
             append(out, b")")?;
             moving = moving.behind(part);
@@ -204,7 +208,9 @@ pub(crate) fn append_list(
     list: Node<'_, '_>,
     moving: Moving,
 ) -> Result<(), AllocError>
-    ensures { OnOk result (out.new.items ≡ out.old.items ++ list_down setting.entry (span (tree_of list.entry)) (renewed moving (inside (tree_of list.entry)))) }
+    ensures { OnOk result (out.new.items
+        ≡ out.old.items ++ list_down setting.entry (span (tree_of list.entry))
+        (updated moving (inside (tree_of list.entry)))) }
 {
     append(out, b"(")?;
     let span = list.span();

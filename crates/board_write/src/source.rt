@@ -3,7 +3,7 @@
 ghost use Rattle.std.specs.Prelude.{◌≡◌, ◌≤◌, ◌⊎◌, length, IfOk, IfErr, Ok, Err};
 ghost use Rattle.board_errors.specs.declared.errors.BoardError.{BoardError};
 ghost use Rattle.pcb_read.specs.BoardText.{BoardSays};
-ghost use Rattle.board_write.specs.Answers.{IsCauseBefore};
+ghost use Rattle.board_write.specs.WriteResults.{IsCauseBefore};
 ghost use Rattle.board_write.specs.Sources.{IsSource};
 ghost use Rattle.board_write.specs.declared.error.WriteError.{WriteError};
 
@@ -28,7 +28,8 @@ pub fn read_source<'t>(alloc: Global, text: &'t [u8]) -> Result<SourceText<'t>, 
     ensures read { IfOk result (IsSource text.entry.now) }
     ensures says { IfOk result (λ source. BoardSays text.entry.now (Ok source.board)) }
     ensures cause { IfErr result (IsCauseBefore text.entry.now) }
-    ensures refused { (why : BoardError) → BoardSays text.entry.now (Err why) → (result ≡ Err (WriteError.Board why)) ⊎ (result ≡ Err WriteError.OutOfMemory) }
+    ensures refused { (why : BoardError) → BoardSays text.entry.now (Err why)
+        → (result ≡ Err (WriteError.Board why)) ⊎ (result ≡ Err WriteError.OutOfMemory) }
 {
     one_reading();
     match parse_one(alloc, text) {

@@ -5,7 +5,7 @@ ghost use Rattle.edit_script.specs.Commands.{plain_command};
 ghost use Rattle.edit_script.specs.Fits.{Fits};
 ghost use Rattle.board_write.specs.Sources.{IsSource, HasText};
 
-use crate::course::carried_out;
+use crate::edit_state::carried_out;
 use crate::root::{Units, text_after};
 use crate::source::SourceText;
 use edit_script::Command;
@@ -31,14 +31,14 @@ pub(crate) fn text_by(
     ensures { IfOk result (HasText text.now (map plain_command commands.now)) }
 {
     let SourceText { board, spans, doc } = source;
-    let course = carried_out(alloc, board, commands)?;
+    let edit_state = carried_out(alloc, board, commands)?;
     let units = Units {
         spans: spans.as_slice(),
-        marks: course.marks.as_slice(),
+        marks: edit_state.marks.as_slice(),
     };
-    let text = text_after(alloc, &doc, text, units, &course.added)?;
+    let text = text_after(alloc, &doc, text, units, &edit_state.added)?;
     Ok(Written {
         text,
-        refused: course.refused,
+        refused: edit_state.refused,
     })
 }

@@ -8,7 +8,7 @@ use Rattle.geo_seg.specs.Boxes.{are_near}
 use Rattle.std.proofs.lemmas.List.Elements.{All-append, All-cons, All-contains, All-filter, All-weaker}
 use Rattle.box_index.specs.declared.corners.Corner.{Corner}
 use Rattle.box_index.specs.declared.entry.Entry.{Entry}
-use Rattle.box_index.specs.Corners.{BeginsBy}
+use Rattle.box_index.specs.EntryOrigins.{BeginsBy}
 use Rattle.box_index.specs.Tiles.{PlainIndex, IsSoundIndex, IsComplete, AnswersForNone, margin, lane, near_of, owner_of, placed}
 use Rattle.box_index.proofs.Buckets.{wide_from}
 use Rattle.box_index.proofs.TileLemmas.{lane-mono, lane-within}

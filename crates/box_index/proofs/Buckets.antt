@@ -17,9 +17,9 @@ use Rattle.box_index.specs.Tiles.{PlainIndex, IsSoundIndex, IsComplete, IsRising
 use Rattle.box_index.specs.Areas.{has_tile}
 use Rattle.box_index.specs.Cuts.{IsCut}
 use Rattle.box_index.specs.declared.spans.Span.{Span}
-use Rattle.box_index.specs.Spans.{HasAll}
+use Rattle.box_index.specs.TileRanges.{HasAll}
 use Rattle.box_index.specs.declared.shared.Shared.{Shared}
-use Rattle.box_index.specs.Shares.{AreShared, AreRising, CanTake, IsPutNear, IsTakenNear}
+use Rattle.box_index.specs.SharedLists.{AreShared, AreRising, CanTake, IsPutNear, IsTakenNear}
 use Rattle.box_index.proofs.TileLemmas.{lane-within, owns_both}
 use Rattle.box_index.proofs.Numbers.{and_no, any_kept, filter_same, filter_nothing}
 use Rattle.box_index.proofs.EntryLists.{filter_all, filter_none, filter_swap, pairs_first, pairs_rest, below_true, below_false, is_below}
@@ -154,8 +154,8 @@ sound_without reach xs ys id s e =
 
 near_cut : (p : Entry → Bool) (xs ys : List Entry) (e : Entry) → IsCut xs e ys → p e ≡ false → filter p ys ≡ filter p xs
 near_cut p xs ys e c f =
-    ap (filter p) c.is ∙ filter-append p c.front c.back
-    ∙ sym (ap (filter p) c.was ∙ filter-append p c.front (e ∷ c.back) ∙ ap (λ b. filter p c.front ++ cond b (e ∷ filter p c.back) (filter p c.back)) f)
+    ap (filter p) c.is ∙ filter-append p c.prefix c.back
+    ∙ sym (ap (filter p) c.was ∙ filter-append p c.prefix (e ∷ c.back) ∙ ap (λ b. filter p c.prefix ++ cond b (e ∷ filter p c.back) (filter p c.back)) f)
 
 pub taken_near : (reach : ℤ) (xs ys : List Entry) (id : ℕ) (e : Entry) (area : Area) → IsCut xs e ys → ys ≡ without id xs → ((tile : ℕ) → has_tile area tile ≡ is_in (index_of reach xs) tile e) → IsTakenNear id area (near_of (index_of reach xs)) (near_of (index_of reach ys))
 taken_near reach xs ys id e area cut w same = record {
@@ -164,7 +164,7 @@ taken_near reach xs ys id e area cut w same = record {
 }
 
 pub fits_cut : (reach : ℤ) (xs ys : List Entry) (e : Entry) → IsSoundIndex (index_of reach xs) → IsCut xs e ys → FitsWithin (pos 2000000000) e.bounds
-fits_cut reach xs ys e s c = All-contains (λ (x : Entry). FitsWithin (pos 2000000000) x.bounds) xs e s.fit (subst (λ (zs : List Entry). Contains zs e) (sym c.was) (Contains-append_right c.front (e ∷ c.back) e (0, omega arith, refl)))
+fits_cut reach xs ys e s c = All-contains (λ (x : Entry). FitsWithin (pos 2000000000) x.bounds) xs e s.fit (subst (λ (zs : List Entry). Contains zs e) (sym c.was) (Contains-append_right c.prefix (e ∷ c.back) e (0, omega arith, refl)))
 
 pub rising_lists : (reach : ℤ) (xs : List Entry) (area : Area) (tiles : List ℕ) (lists : List Shared) → IsSoundIndex (index_of reach xs) → AreShared (near_of (index_of reach xs)) tiles lists → AreRising area tiles lists
 rising_lists reach xs area tiles lists s k tile d list t =

@@ -9,8 +9,8 @@ use Rattle.box_index.specs.declared.area.Area.{Area}
 use Rattle.box_index.specs.declared.corners.Corner.{Corner}
 use Rattle.box_index.specs.declared.shared.Shared.{Shared}
 use Rattle.box_index.specs.Areas.{has_tile}
-use Rattle.box_index.specs.Corners.{BeginsBy}
-use Rattle.box_index.specs.Shares.{AreShared, IsEqual, list_at}
+use Rattle.box_index.specs.EntryOrigins.{BeginsBy}
+use Rattle.box_index.specs.SharedLists.{AreShared, IsEqual, list_at}
 use Rattle.box_index.specs.Tiles.{IsSoundIndex, tile_count}
 use Rattle.box_index.proofs.TileLemmas.{passed_is}
 use Rattle.box_index.proofs.Buckets.{index_of}

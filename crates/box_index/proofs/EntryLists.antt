@@ -51,8 +51,8 @@ module _ {X : Type 0} where
       ∙ sym (filter_cond q (p x) x (filter p xs))
 
   -- a list of which the first k pass and the others fail, or the other way round
-  within_front : (P : X → Type 0) (xs : List X) (k : ℕ) → AllWithin P xs 0 k → All P (take k xs)
-  within_front P xs k h = λ i d l.
+  within_prefix : (P : X → Type 0) (xs : List X) (k : ℕ) → AllWithin P xs 0 k → All P (take k xs)
+  within_prefix P xs k h = λ i d l.
       let lt : i < k = omega (arith, length-take k xs) in
       subst P (sym (get_or-take k xs i d lt)) (h i d (omega arith) lt)
 
@@ -64,17 +64,17 @@ module _ {X : Type 0} where
   filter_parts : (p : X → Bool) (xs : List X) (k : ℕ) → filter p xs ≡ filter p (take k xs) ++ filter p (drop k xs)
   filter_parts p xs k = ap (filter p) (sym (take-append-drop k xs)) ∙ filter-append p (take k xs) (drop k xs)
 
-  pub filter_front : (p : X → Bool) (xs : List X) (k : ℕ) → AllWithin (λ x. p x ≡ true) xs 0 k → AllWithin (λ x. p x ≡ false) xs k (length xs) → filter p xs ≡ take k xs
-  filter_front p xs k h g =
+  pub filter_prefix : (p : X → Bool) (xs : List X) (k : ℕ) → AllWithin (λ x. p x ≡ true) xs 0 k → AllWithin (λ x. p x ≡ false) xs k (length xs) → filter p xs ≡ take k xs
+  filter_prefix p xs k h g =
       filter_parts p xs k
-      ∙ ap (λ ys. ys ++ filter p (drop k xs)) (filter_all p (take k xs) (within_front (λ x. p x ≡ true) xs k h))
+      ∙ ap (λ ys. ys ++ filter p (drop k xs)) (filter_all p (take k xs) (within_prefix (λ x. p x ≡ true) xs k h))
       ∙ ap (λ ys. take k xs ++ ys) (filter_none p (drop k xs) (within_back (λ x. p x ≡ false) xs k g))
       ∙ append-nil (take k xs)
 
   pub filter_back : (p : X → Bool) (xs : List X) (k : ℕ) → AllWithin (λ x. p x ≡ false) xs 0 k → AllWithin (λ x. p x ≡ true) xs k (length xs) → filter p xs ≡ drop k xs
   filter_back p xs k h g =
       filter_parts p xs k
-      ∙ ap (λ ys. ys ++ filter p (drop k xs)) (filter_none p (take k xs) (within_front (λ x. p x ≡ false) xs k h))
+      ∙ ap (λ ys. ys ++ filter p (drop k xs)) (filter_none p (take k xs) (within_prefix (λ x. p x ≡ false) xs k h))
       ∙ filter_all p (drop k xs) (within_back (λ x. p x ≡ true) xs k g)
 
   -- all but the element at k pass
@@ -83,7 +83,7 @@ module _ {X : Type 0} where
   filter_but p xs k x l e h n g =
       let one : k + 1 ≡ suc k = omega arith in
       filter_parts p xs k
-      ∙ ap (λ ys. ys ++ filter p (drop k xs)) (filter_all p (take k xs) (within_front (λ x. p x ≡ true) xs k h))
+      ∙ ap (λ ys. ys ++ filter p (drop k xs)) (filter_all p (take k xs) (within_prefix (λ x. p x ≡ true) xs k h))
       ∙ ap (λ ys. take k xs ++ filter p ys) {y = x ∷ drop (k + 1) xs} (drop_more xs k x l ∙ ap (λ y. y ∷ drop (k + 1) xs) (sym e))
       ∙ ap (λ b. take k xs ++ cond b (x ∷ filter p (drop (k + 1) xs)) (filter p (drop (k + 1) xs))) n
       ∙ ap (λ ys. take k xs ++ ys) (filter_all p (drop (k + 1) xs) (within_back (λ x. p x ≡ true) xs (k + 1) g))
@@ -128,7 +128,7 @@ pub record IsSplit (id : ℕ) (xs : List Entry) (k : ℕ) : Type 0 where
 
 pub placed_at : (e : Entry) (xs : List Entry) (k : ℕ) → IsSplit e.id xs k → IsAbsent e.id xs → insert xs k e ≡ placed e xs
 placed_at e xs k s a =
-    let low = filter_front (λ (x : Entry). nat_lt x.id e.id) xs k (λ i d l h. below_true _ _ (s.below i d l h)) (λ i d l h. below_false _ _ (s.from i d l h)) in
+    let low = filter_prefix (λ (x : Entry). nat_lt x.id e.id) xs k (λ i d l h. below_true _ _ (s.below i d l h)) (λ i d l h. below_false _ _ (s.from i d l h)) in
     let high = filter_back (λ (x : Entry). nat_lt e.id x.id) xs k (λ i d l h. below_false _ _ (let b = s.below i d l h in omega arith)) (λ i d l h. below_true _ _ (let f = s.from i d l h in let n = a i d h in omega arith)) in
     ap (λ ys. ys ++ e ∷ drop k xs) (sym low) ∙ ap (λ ys. filter (λ (x : Entry). nat_lt x.id e.id) xs ++ e ∷ ys) (sym high)
 

@@ -14,14 +14,14 @@ use Rattle.box_index.specs.declared.entry.Entry.{Entry}
 use Rattle.box_index.specs.declared.kept.Sides.{Sides}
 use Rattle.box_index.specs.Tiles.{IsRising, placed, without}
 use Rattle.box_index.specs.Cuts.{IsCut}
-use Rattle.box_index.specs.Kept.{entry_of, entries_of, far_entries, all_entries, AreFar}
+use Rattle.box_index.specs.BoxSlots.{entry_of, entries_of, far_entries, all_entries, AreFar}
 use Rattle.box_index.proofs.EntryLists.{filter_all, filter_none, none_at, pairs_first, pairs_rest, below_true, below_false}
 use Rattle.box_index.proofs.Buckets.{rising_placed}
 use Rattle.box_index.proofs.KeptLemmas.{before_all, after_first, in_place, without_first, without_later, later_cut, some_same, all_below, one_put, no_slots}
 
 -- ---- lists of entries in two parts
-placed_front : (e : Entry) (xs ys : List Entry) → All (λ (y : Entry). e.id < y.id) ys → placed e xs ++ ys ≡ placed e (xs ++ ys)
-placed_front e xs ys h =
+placed_prefix : (e : Entry) (xs ys : List Entry) → All (λ (y : Entry). e.id < y.id) ys → placed e xs ++ ys ≡ placed e (xs ++ ys)
+placed_prefix e xs ys h =
     let p : Entry → Bool = λ y. nat_lt y.id e.id in
     let q : Entry → Bool = λ y. nat_lt e.id y.id in
     let low = filter_none p ys (All-weaker (λ (y : Entry). e.id < y.id) (λ (y : Entry). p y ≡ false) (λ y l. below_false _ _ (omega arith)) ys h) in
@@ -40,8 +40,8 @@ placed_back e xs ys h =
     ∙ ap (λ zs. zs ++ e ∷ filter q ys) (sym (filter-append p xs ys ∙ ap (λ zs. zs ++ filter p ys) low))
     ∙ ap (λ zs. filter p (xs ++ ys) ++ e ∷ zs) (sym (filter-append q xs ys ∙ ap (λ zs. zs ++ filter q ys) high))
 
-without_front : (id : ℕ) (xs ys : List Entry) → All (λ (y : Entry). id < y.id) ys → without id xs ++ ys ≡ without id (xs ++ ys)
-without_front id xs ys h =
+without_prefix : (id : ℕ) (xs ys : List Entry) → All (λ (y : Entry). id < y.id) ys → without id xs ++ ys ≡ without id (xs ++ ys)
+without_prefix id xs ys h =
     ap (λ zs. without id xs ++ zs) (none_at id ys (All-weaker (λ (y : Entry). id < y.id) (λ (y : Entry). y.id ≢ id) (λ y l. omega arith) ys h))
     ∙ sym (filter-append (λ (y : Entry). not (y.id == id)) xs ys)
 
@@ -52,10 +52,10 @@ without_back id xs ys h =
 
 cut_back : (xs ys now : List Entry) (e : Entry) → IsCut ys e now → IsCut (xs ++ ys) e (xs ++ now)
 cut_back xs ys now e c = record {
-  front = xs ++ c.front;
+  prefix = xs ++ c.prefix;
   back = c.back;
-  was = ap (λ (zs : List Entry). xs ++ zs) c.was ∙ sym (append_assoc xs c.front (e ∷ c.back));
-  is = ap (λ (zs : List Entry). xs ++ zs) c.is ∙ sym (append_assoc xs c.front c.back);
+  was = ap (λ (zs : List Entry). xs ++ zs) c.was ∙ sym (append_assoc xs c.prefix (e ∷ c.back));
+  is = ap (λ (zs : List Entry). xs ++ zs) c.is ∙ sym (append_assoc xs c.prefix c.back);
 }
 
 pub found_back : (r : Option Entry) (xs ys now : List Entry) → IfSome r (λ e. IsCut ys e now) → IfSome r (λ e. IsCut (xs ++ ys) e (xs ++ now))
@@ -110,7 +110,7 @@ here_same id n s t es h e = cc
 cut_step : (id : ℕ) (s : Sides) (k : Kept) (ks others : List Kept) (o : Ordering) (found : Option Sides) → MatchOrdering o (id < k.0) (id ≡ k.0) (k.0 < id) → cond (is_eq o) (Some k.1) found ≡ Some s
     → (found ≡ Some s → IsCut (far_entries ks) (entry_of id s) (far_entries others)) → IsCut (far_entries (k ∷ ks)) (entry_of id s) (far_entries (cond (is_eq o) ks (k ∷ others)))
 cut_step id s k ks others Less found l h g = later_cut (far_entry k) (entry_of id s) (far_entries ks) (far_entries others) (g h)
-cut_step id s k ks others Equal found l h g = record { front = []; back = far_entries ks; was = here_same id k.0 s k.1 (far_entries ks) l (some_same k.1 s h); is = refl }
+cut_step id s k ks others Equal found l h g = record { prefix = []; back = far_entries ks; was = here_same id k.0 s k.1 (far_entries ks) l (some_same k.1 s h); is = refl }
 cut_step id s k ks others Greater found l h g = later_cut (far_entry k) (entry_of id s) (far_entries ks) (far_entries others) (g h)
 
 none_found : (s : Sides) → None ≡ Some s → ⊥
@@ -181,13 +181,13 @@ far_after : (id bound : ℕ) (ks : List Kept) → id < bound → AreFar bound ks
 far_after id bound ks l f = All-weaker (λ (e : Entry). bound ≤ e.id) (λ (e : Entry). id < e.id) (λ e m. omega arith) (far_entries ks) f.past
 
 pub near_placed : (e : Entry) (bound : ℕ) (xs : List Entry) (ks : List Kept) → e.id < bound → AreFar bound ks → placed e xs ++ far_entries ks ≡ placed e (xs ++ far_entries ks)
-near_placed e bound xs ks l f = placed_front e xs (far_entries ks) (far_after e.id bound ks l f)
+near_placed e bound xs ks l f = placed_prefix e xs (far_entries ks) (far_after e.id bound ks l f)
 
 pub behind_placed : (e : Entry) (slots : List (Option Sides)) (ks : List Entry) → length slots ≤ e.id → entries_of slots ++ placed e ks ≡ placed e (entries_of slots ++ ks)
 behind_placed e slots ks l = placed_back e (entries_of slots) ks (all_below e.id slots l)
 
 pub near_without : (id bound : ℕ) (xs : List Entry) (ks : List Kept) → id < bound → AreFar bound ks → without id xs ++ far_entries ks ≡ without id (xs ++ far_entries ks)
-near_without id bound xs ks l f = without_front id xs (far_entries ks) (far_after id bound ks l f)
+near_without id bound xs ks l f = without_prefix id xs (far_entries ks) (far_after id bound ks l f)
 
 pub behind_without : (id : ℕ) (slots : List (Option Sides)) (ks : List Entry) → length slots ≤ id → entries_of slots ++ without id ks ≡ without id (entries_of slots ++ ks)
 behind_without id slots ks l = without_back id (entries_of slots) ks (all_below id slots l)

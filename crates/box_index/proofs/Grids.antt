@@ -10,12 +10,12 @@ use Rattle.box_index.specs.declared.corners.Corner.{Corner}
 use Rattle.box_index.specs.declared.parting.Parted.{Parted}
 use Rattle.box_index.specs.declared.shared.Shared.{Shared}
 use Rattle.box_index.specs.Tiles.{tile_count}
-use Rattle.box_index.specs.Areas.{has_tile, end_of, LiesIn}
-use Rattle.box_index.specs.Corners.{BeginsBy}
-use Rattle.box_index.specs.Shares.{AreHomed, AreShared, DoStay, HasMoved, HasRoom, IsAlike, IsEqual, IsOf, IsParted, IsReady, list_at}
+use Rattle.box_index.specs.Areas.{has_tile, end_of, IsSubarea}
+use Rattle.box_index.specs.EntryOrigins.{BeginsBy}
+use Rattle.box_index.specs.SharedLists.{AreHomed, AreShared, DoStay, HasMoved, HasCapacity, HasSameEntries, IsEqual, IsOf, IsParted, IsReady, list_at}
 
 -- ---- one list
-pub of_alike : (entries : List Entry) (old new : Shared) → IsAlike old new → IsOf entries old → IsOf entries new
+pub of_alike : (entries : List Entry) (old new : Shared) → HasSameEntries old new → IsOf entries old → IsOf entries new
 of_alike entries old new a o = record {
   items = a.items ∙ o.items;
   begun = subst (λ (l : Corner). All (BeginsBy l) entries) (sym a.last) o.begun;
@@ -53,7 +53,7 @@ module _ (tile : ℕ) (tiles tiles' : List ℕ) (lists lists' : List Shared) (m 
 
   of_at : (entries : List Entry) (other d : ℕ) (s : Shared) → other < tile_count → (other ≡ tile) ⊎ (other ≢ tile) → IsOf entries (list_at tiles lists other d s) → IsOf entries (list_at tiles' lists' other d s)
   of_at entries other d s l (inl e) o =
-      of_alike entries _ _ (subst (λ t. IsAlike (list_at tiles lists t d s) (list_at tiles' lists' t d s)) (sym e) (m.alike d s)) o
+      of_alike entries _ _ (subst (λ t. HasSameEntries (list_at tiles lists t d s) (list_at tiles' lists' t d s)) (sym e) (m.alike d s)) o
   of_at entries other d s l (inr k) o = of_equal entries _ _ (other_equal other d s l k) o
 
   pub moved_shared : (near : ℕ → List Entry) → AreShared near tiles lists → AreShared near tiles' lists'
@@ -65,8 +65,8 @@ module _ (tile : ℕ) (tiles tiles' : List ℕ) (lists lists' : List Shared) (m 
   pub moved_ready : (area : Area) (other d : ℕ) (s : Shared) → other < tile_count → other ≢ tile → IsReady area (list_at tiles lists other d s) → IsReady area (list_at tiles' lists' other d s)
   moved_ready area other d s l ne r =
       record {
-        lies = subst (λ (a : Area). LiesIn a area) (sym (other_equal other d s l ne).home) r.lies;
-        room = subst HasRoom (sym (other_list other d s ne)) (m.stay.room (slice_index_or tiles other d) s (h.within other d l) r.room);
+        lies = subst (λ (a : Area). IsSubarea a area) (sym (other_equal other d s l ne).home) r.lies;
+        capacity = subst HasCapacity (sym (other_list other d s ne)) (m.stay.capacity (slice_index_or tiles other d) s (h.within other d l) r.capacity);
       }
 
 -- ---- lists of which one is given room
@@ -80,8 +80,8 @@ parted_stay area last a b h p = record {
     last = other.last ∙ both.last ∙ sym one.last;
   };
   ready = λ s. record {
-    lies = subst (λ (x : Area). LiesIn x area) (sym (h.same last.to s p.to).home) (p.ready s).lies;
-    room = h.room last.to s p.to (p.ready s).room;
+    lies = subst (λ (x : Area). IsSubarea x area) (sym (h.same last.to s p.to).home) (p.ready s).lies;
+    capacity = h.capacity last.to s p.to (p.ready s).capacity;
   };
 }
 
@@ -90,7 +90,7 @@ parted_still area None a b h p = p
 parted_still area (Some last) a b h p = parted_stay area last a b h p
 
 -- a list is only given room
-module _ (tile : ℕ) (tiles : List ℕ) (lists : List Shared) (h : AreHomed tiles lists) (l : tile < tile_count) (n : ℕ) (is : (d : ℕ) → slice_index_or tiles tile d ≡ n) (x : Shared) (same : (s : Shared) → IsEqual (slice_index_or lists n s) x) (room : (s : Shared) → HasRoom (slice_index_or lists n s) → HasRoom x) where
+module _ (tile : ℕ) (tiles : List ℕ) (lists : List Shared) (h : AreHomed tiles lists) (l : tile < tile_count) (n : ℕ) (is : (d : ℕ) → slice_index_or tiles tile d ≡ n) (x : Shared) (same : (s : Shared) → IsEqual (slice_index_or lists n s) x) (capacity : (s : Shared) → HasCapacity (slice_index_or lists n s) → HasCapacity x) where
   low : n < length lists
   low = let w = h.within tile 0 l in let e = is 0 in omega (arith, w, e)
 
@@ -98,23 +98,23 @@ module _ (tile : ℕ) (tiles : List ℕ) (lists : List Shared) (h : AreHomed til
   equal_at m s k (inl e) = subst (λ i. IsEqual (slice_index_or lists i s) (slice_index_or (slice_set lists n x) i s)) (sym e) (subst (IsEqual (slice_index_or lists n s)) (sym (get_or-set_same lists n x s low)) (same s))
   equal_at m s k (inr o) = subst (IsEqual (slice_index_or lists m s)) (sym (get_or-set_other lists n m x s o)) (record { items = refl; last = refl; home = refl })
 
-  room_at : (m : ℕ) (s : Shared) → (m ≡ n) ⊎ (m ≢ n) → HasRoom (slice_index_or lists m s) → HasRoom (slice_index_or (slice_set lists n x) m s)
-  room_at m s (inl e) r = subst (λ i. HasRoom (slice_index_or (slice_set lists n x) i s)) (sym e) (subst HasRoom (sym (get_or-set_same lists n x s low)) (room s (subst (λ i. HasRoom (slice_index_or lists i s)) e r)))
-  room_at m s (inr o) r = subst HasRoom (sym (get_or-set_other lists n m x s o)) r
+  capacity_at : (m : ℕ) (s : Shared) → (m ≡ n) ⊎ (m ≢ n) → HasCapacity (slice_index_or lists m s) → HasCapacity (slice_index_or (slice_set lists n x) m s)
+  capacity_at m s (inl e) r = subst (λ i. HasCapacity (slice_index_or (slice_set lists n x) i s)) (sym e) (subst HasCapacity (sym (get_or-set_same lists n x s low)) (capacity s (subst (λ i. HasCapacity (slice_index_or lists i s)) e r)))
+  capacity_at m s (inr o) r = subst HasCapacity (sym (get_or-set_other lists n m x s o)) r
 
-  pub stay_roomy : DoStay lists (slice_set lists n x)
-  stay_roomy = record {
+  pub stay_with_capacity_left : DoStay lists (slice_set lists n x)
+  stay_with_capacity_left = record {
     longer = let e = length-set lists n x in omega (arith, e);
     same = λ m s k. equal_at m s k (cases_eq m n);
-    room = λ m s k. room_at m s (cases_eq m n);
+    capacity = λ m s k. capacity_at m s (cases_eq m n);
   }
 
   here_equal : (d : ℕ) (s : Shared) → IsEqual (list_at tiles lists tile d s) (list_at tiles (slice_set lists n x) tile d s)
-  here_equal d s = stay_roomy.same (slice_index_or tiles tile d) s (h.within tile d l)
+  here_equal d s = stay_with_capacity_left.same (slice_index_or tiles tile d) s (h.within tile d l)
 
-  pub moved_roomy : HasMoved tile tiles lists tiles (slice_set lists n x)
-  moved_roomy = record {
-    stay = stay_roomy;
+  pub moved_with_capacity_left : HasMoved tile tiles lists tiles (slice_set lists n x)
+  moved_with_capacity_left = record {
+    stay = stay_with_capacity_left;
     long = refl;
     others = λ other d ne. refl;
     within = λ d. let w = h.within tile d l in let e = length-set lists n x in omega (arith, w, e);

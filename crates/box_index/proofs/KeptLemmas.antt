@@ -7,7 +7,7 @@ use Rattle.box_index.specs.declared.entry.Entry.{Entry}
 use Rattle.box_index.specs.declared.kept.Sides.{Sides}
 use Rattle.box_index.specs.Tiles.{placed, without}
 use Rattle.box_index.specs.Cuts.{IsCut}
-use Rattle.box_index.specs.Kept.{entry_of, entries_from, entries_of}
+use Rattle.box_index.specs.BoxSlots.{entry_of, entries_from, entries_of}
 use Rattle.box_index.proofs.EntryLists.{filter_all, filter_none, none_at, below_true, below_false, same_test, other_test}
 
 -- ---- lists of entries
@@ -43,7 +43,7 @@ pub without_later : (id : ℕ) (x : Entry) (xs : List Entry) → x.id ≢ id →
 without_later id x xs n = let test : Entry → Bool = λ y. not (y.id == id) in sym (ap (λ b. cond b (x ∷ filter test xs) (filter test xs)) (same_test _ _ n))
 
 pub later_cut : (x e : Entry) (xs ys : List Entry) → IsCut xs e ys → IsCut (x ∷ xs) e (x ∷ ys)
-later_cut x e xs ys c = record { front = x ∷ c.front; back = c.back; was = ap (λ (zs : List Entry). x ∷ zs) c.was; is = ap (λ (zs : List Entry). x ∷ zs) c.is }
+later_cut x e xs ys c = record { prefix = x ∷ c.prefix; back = c.back; was = ap (λ (zs : List Entry). x ∷ zs) c.was; is = ap (λ (zs : List Entry). x ∷ zs) c.is }
 
 -- ---- entries of slots
 above : (n : ℕ) (slots : List (Option Sides)) → All (λ (e : Entry). n ≤ e.id) (entries_from n slots)
@@ -124,7 +124,7 @@ pub some_same : (a b : Sides) → Some a ≡ Some b → a ≡ b
 some_same a b h = cc
 
 cut_here : (n id : ℕ) (s t : Sides) (es : List Entry) → id ≡ n → t ≡ s → IsCut (entry_of n t ∷ es) (entry_of id s) es
-cut_here n id s t es h e = record { front = []; back = es; was = ap (λ i. entry_of i t ∷ es) (sym h) ∙ ap (λ u. entry_of id u ∷ es) e; is = refl }
+cut_here n id s t es h e = record { prefix = []; back = es; was = ap (λ i. entry_of i t ∷ es) (sym h) ∙ ap (λ u. entry_of id u ∷ es) e; is = refl }
 
 cut_from : (n id k : ℕ) (s : Sides) (slots : List (Option Sides)) (d : Option Sides) → id ≡ n + k → k < length slots → get_or slots k d ≡ Some s → IsCut (entries_from n slots) (entry_of id s) (entries_from n (set slots k None))
 unfolding entries_from

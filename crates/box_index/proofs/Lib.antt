@@ -7,7 +7,7 @@ pub mod RisingIds
 pub mod KeptLemmas
 pub mod FarLemmas
 pub mod Reaching
-pub mod Fronts
+pub mod Prefixes
 pub mod Copies
 pub mod Grids
 pub mod Ones

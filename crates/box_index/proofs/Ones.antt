@@ -6,14 +6,14 @@ use Rattle.box_index.specs.declared.area.Area.{Area}
 use Rattle.box_index.specs.declared.entry.Entry.{Entry}
 use Rattle.box_index.specs.declared.shared.Shared.{Shared}
 use Rattle.box_index.specs.Tiles.{tile_count}
-use Rattle.box_index.specs.Areas.{has_tile, LiesIn}
-use Rattle.box_index.specs.Walks.{IsChanged}
-use Rattle.box_index.specs.Shares.{AreHomed, AreReady, AreShared, HasRoom, IsAlike, IsEven, IsOf, IsReady, list_at}
+use Rattle.box_index.specs.Areas.{has_tile, IsSubarea}
+use Rattle.box_index.specs.AreaWalks.{IsChanged}
+use Rattle.box_index.specs.SharedLists.{AreHomed, AreReady, AreShared, HasCapacity, HasSameEntries, IsEven, IsOf, IsReady, list_at}
 use Rattle.box_index.proofs.Grids.{of_alike}
 
 module _ (area : Area) (tiles tiles' : List ℕ) (lists : List Shared) (made : Shared) (to first : ℕ) (is : to ≡ length lists) (h : AreHomed tiles lists) (even : IsEven area tiles) (has : has_tile area first ≡ true)
     (w : IsChanged (λ (was now : ℕ). now ≡ to) area tiles tiles')
-    (alike : (s : Shared) → IsAlike (list_at tiles lists first 0 s) made)
+    (alike : (s : Shared) → HasSameEntries (list_at tiles lists first 0 s) made)
     (home : (tile : ℕ) (s : Shared) → has_tile (list_at tiles lists first 0 s).home tile ≡ true → has_tile area tile ≡ true → has_tile made.home tile ≡ true) where
   abbrev lists' : List Shared
   lists' = lists ++ made ∷ []
@@ -56,5 +56,5 @@ module _ (area : Area) (tiles tiles' : List ℕ) (lists : List Shared) (made : S
     each = λ tile d s l. of_by (near tile) tile d s l (has_tile area tile) refl (λ e. k.each tile e s l);
   }
 
-  pub one_ready : LiesIn made.home area → HasRoom made → AreReady area tiles' lists'
-  one_ready lies room tile d s t = subst (IsReady area) (sym (inside_at tile d s t)) (record { lies = lies; room = room })
+  pub one_ready : IsSubarea made.home area → HasCapacity made → AreReady area tiles' lists'
+  one_ready lies capacity tile d s t = subst (IsReady area) (sym (inside_at tile d s t)) (record { lies = lies; capacity = capacity })

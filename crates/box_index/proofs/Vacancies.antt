@@ -7,14 +7,14 @@ use Rattle.box_index.specs.declared.entry.Entry.{Entry}
 use Rattle.box_index.specs.declared.shared.Shared.{Shared}
 use Rattle.box_index.specs.Areas.{has_tile, end_of}
 use Rattle.box_index.specs.Cuts.{IsCut}
-use Rattle.box_index.specs.Shares.{AreShared, IsEven, is_vacant, list_at, vacant_of}
+use Rattle.box_index.specs.SharedLists.{AreShared, IsEven, is_vacant, list_at, vacant_of}
 use Rattle.box_index.specs.Tiles.{IsRising, IsAbsent, held_of, is_held, is_in, near_of, numbers_below, placed, tile_count}
 use Rattle.box_index.proofs.Buckets.{has_within, index_of, parts_whole}
 use Rattle.box_index.proofs.Numbers.{any_kept, count_joined, count_with, count_without, filter_between, filter_nothing, filter_same, filter_zero}
 
 -- ---- the tiles that hold an entry, with one entry more
 pub placed_cut : (e : Entry) (xs : List Entry) → IsRising xs → IsAbsent e.id xs → IsCut (placed e xs) e xs
-placed_cut e xs r a = record { front = _; back = _; was = refl; is = sym (parts_whole e.id xs r a) }
+placed_cut e xs r a = record { prefix = _; back = _; was = refl; is = sym (parts_whole e.id xs r a) }
 
 or_swapped : (a b c : Bool) → (a || (b || c)) ≡ ((a || c) || b)
 or_swapped true b c = refl
@@ -25,8 +25,8 @@ or_swapped false false false = refl
 
 any_cut : (p : Entry → Bool) (xs ys : List Entry) (e : Entry) → IsCut xs e ys → list_any p xs ≡ (list_any p ys || p e)
 any_cut p xs ys e c =
-    ap (list_any p) c.was ∙ list_any-append p c.front (e ∷ c.back) ∙ or_swapped (list_any p c.front) (p e) (list_any p c.back)
-    ∙ ap (λ b. b || p e) (sym (ap (list_any p) c.is ∙ list_any-append p c.front c.back))
+    ap (list_any p) c.was ∙ list_any-append p c.prefix (e ∷ c.back) ∙ or_swapped (list_any p c.prefix) (p e) (list_any p c.back)
+    ∙ ap (λ b. b || p e) (sym (ap (list_any p) c.is ∙ list_any-append p c.prefix c.back))
 
 not_twice : (b : Bool) → b ≡ not (not b)
 not_twice true = refl

@@ -1,9 +1,9 @@
 pub mod Tiles
-pub mod Corners
+pub mod EntryOrigins
 pub mod Areas
 pub mod Cuts
-pub mod Walks
-pub mod Shares
-pub mod Spans
-pub mod Kept
+pub mod AreaWalks
+pub mod SharedLists
+pub mod TileRanges
+pub mod BoxSlots
 pub mod Reached

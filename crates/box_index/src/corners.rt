@@ -2,7 +2,7 @@
 
 ghost use Rattle.std.specs.Prelude.{◌≤◌};
 ghost use Rattle.geo_seg.specs.Boxes.{FitsIndex};
-ghost use Rattle.box_index.specs.Corners.{BeginsBy};
+ghost use Rattle.box_index.specs.EntryOrigins.{BeginsBy};
 
 use crate::entry::Entry;
 use crate::lanes::lane;

@@ -2,7 +2,7 @@
 
 ghost use Rattle.std.specs.Prelude.{IfOk};
 ghost use Rattle.box_index.specs.Tiles.{tile_count};
-ghost use Rattle.box_index.specs.Walks.{IsFilled};
+ghost use Rattle.box_index.specs.AreaWalks.{IsFilled};
 
 use crate::lanes::{LANES, TILES};
 use std::alloc::{AllocError, Global};

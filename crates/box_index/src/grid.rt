@@ -6,8 +6,8 @@ ghost use Rattle.geo_seg.specs.Boxes.{FitsIndex};
 ghost use Rattle.box_index.specs.declared.entry.Entry.{Entry};
 ghost use Rattle.box_index.specs.declared.shared.Shared.{Shared};
 ghost use Rattle.box_index.specs.Tiles.{tile_count};
-ghost use Rattle.box_index.specs.Areas.{has_tile, end_of, LiesIn};
-ghost use Rattle.box_index.specs.Shares.{AreHomed, AreShared, AreReady, AreRising, CanTake, IsEven, IsEvenAt, IsEqual, IsPutNear, IsTakenNear, DoMeetAll, list_at, vacant_of};
+ghost use Rattle.box_index.specs.Areas.{has_tile, end_of, IsSubarea};
+ghost use Rattle.box_index.specs.SharedLists.{AreHomed, AreShared, AreReady, AreRising, CanTake, IsEven, IsEvenAt, IsEqual, IsPutNear, IsTakenNear, DoMeetAll, list_at, vacant_of};
 
 use crate::area::Area;
 use crate::entry::Entry;
@@ -31,7 +31,7 @@ pub(crate) struct Grid {
 }
 
 impl Grid {
-    /// Tiles without entries. Only want of memory refuses it.
+    /// Tiles without entries. Only running out of memory refuses it.
     pub(crate) fn new(alloc: Global) -> Result<Grid, AllocError>
         ensures shared { IfOk result (λ grid. AreShared (λ tile.
             []) grid.tiles.items grid.lists.items) }
@@ -46,7 +46,7 @@ impl Grid {
         })
     }
 
-    /// Equal lists of all tiles. Only want of memory refuses it.
+    /// Equal lists of all tiles. Only running out of memory refuses it.
     pub(crate) fn copy(&self) -> Result<Grid, AllocError>
         ensures shared { IfOk result (λ copy. (near : ℕ → List Entry)
             → AreShared near self.now.tiles.items self.now.lists.items
@@ -104,7 +104,7 @@ impl Grid {
         requires even { IsEvenAt self.now.even self.now.tiles.items }
         ensures even { result ≡ true → IsEven area self.now.tiles.items }
         ensures lies { result ≡ true → (tile d : ℕ) (s : Shared) → has_tile area tile ≡ true
-            → LiesIn (list_at self.now.tiles.items self.now.lists.items tile d s).home area }
+            → IsSubarea (list_at self.now.tiles.items self.now.lists.items tile d s).home area }
     {
         self.is_known_even(area) && self.at(area.first()).home.lies_in(area)
     }
@@ -143,8 +143,8 @@ impl Grid {
     }
 
     /// Sees to it that the lists of an area's tiles are theirs alone, and that each has room for one more entry. What each tile has
-    /// stays. Only want of memory refuses it.
-    pub(crate) fn make_room(&mut self, area: Area) -> Result<(), AllocError>
+    /// stays. Only running out of memory refuses it.
+    pub(crate) fn reserve_one(&mut self, area: Area) -> Result<(), AllocError>
         requires homed { AreHomed self.old.tiles.items self.old.lists.items }
         requires even { IsEvenAt self.old.even self.old.tiles.items }
         ensures shared { (near : ℕ → List Entry)
@@ -156,7 +156,7 @@ impl Grid {
         self.even = self.even_with(area);
         if self.is_one(area) {
             let number = self.tiles[area.first()] as usize;
-            return self.lists[number].make_room();
+            return self.lists[number].reserve_one();
         }
         if area.is_wide() && self.is_known_even(area) {
             self.even = Some(area);

@@ -2,7 +2,7 @@
 
 ghost use Rattle.std.specs.Prelude.{◌≡◌, ℕ, ◌<◌, true};
 ghost use Rattle.box_index.specs.Tiles.{tile_count};
-ghost use Rattle.box_index.specs.Areas.{has_tile, LiesIn};
+ghost use Rattle.box_index.specs.Areas.{has_tile, IsSubarea};
 
 use crate::area::Area;
 use crate::lanes::LANES;
@@ -35,7 +35,7 @@ impl Area {
 
     /// Whether each of its tiles is one of the other's.
     pub(crate) fn lies_in(self, other: Area) -> bool
-        ensures { result ≡ true → LiesIn self other }
+        ensures { result ≡ true → IsSubarea self other }
     {
         other.left <= self.left
             && self.right <= other.right
@@ -54,7 +54,7 @@ impl Area {
     fn only(tile: usize) -> Area
         requires { tile < tile_count }
         ensures own { has_tile result tile ≡ true }
-        ensures lies { (area : Area) → has_tile area tile ≡ true → LiesIn result area }
+        ensures lies { (area : Area) → has_tile area tile ≡ true → IsSubarea result area }
     {
         let column = tile % LANES;
         let row = tile / LANES;
@@ -72,7 +72,7 @@ impl Area {
         requires other { has_tile other tile ≡ true }
         ensures all { (each : ℕ) → has_tile self each ≡ true → has_tile other each ≡ true
             → has_tile result each ≡ true }
-        ensures lies { LiesIn result other }
+        ensures lies { IsSubarea result other }
     {
         Area {
             left: self.left.max(other.left),
@@ -88,7 +88,7 @@ impl Area {
         requires inside { has_tile area tile ≡ true }
         requires within { tile < tile_count }
         ensures own { has_tile result tile ≡ true }
-        ensures lies { LiesIn result area }
+        ensures lies { IsSubarea result area }
     {
         if area.is_wide() {
             self.common(area, tile)

@@ -4,7 +4,7 @@ ghost use Rattle.std.specs.Prelude.{◌≡◌, ◌<◌, ◌≤ℤ◌, pos, ◌&&
 ghost use Rattle.geo_seg.specs.Boxes.{widened, FitsIndex};
 ghost use Rattle.box_index.specs.declared.entry.Entry.{Entry};
 ghost use Rattle.box_index.specs.Areas.{has_tile};
-ghost use Rattle.box_index.specs.Spans.{HasAll};
+ghost use Rattle.box_index.specs.TileRanges.{HasAll};
 ghost use Rattle.box_index.specs.Tiles.{PlainIndex, IsSoundIndex, IsComplete, AnswersForNone, IsAbsent, OwnsBoth, meets_tile, near_of, owner_of, margin, placed, without, held_of, is_held, dirty_of, numbers_below, tile_count};
 
 use crate::area::Area;
@@ -40,7 +40,7 @@ pub struct TileIndex {
 impl Model for TileIndex {
     ghost use Rattle.std.specs.Prelude.{◌≡◌, length};
     ghost use Rattle.box_index.specs.Tiles.{PlainIndex, IsSoundIndex, near_of, held_of};
-    ghost use Rattle.box_index.specs.Shares.{AreShared, IsEvenAt};
+    ghost use Rattle.box_index.specs.SharedLists.{AreShared, IsEvenAt};
 
     ghost Value = { PlainIndex };
 
@@ -56,7 +56,7 @@ impl Model for TileIndex {
 }
 
 impl TileIndex {
-    /// An index without entries. The reach is from 0 to 500,000,000 nanometres. Only want of memory refuses it.
+    /// An index without entries. The reach is from 0 to 500,000,000 nanometres. Only running out of memory refuses it.
     pub fn new(alloc: Global, reach: Nm) -> Result<TileIndex, AllocError>
         requires from { pos 0 ≤ℤ reach }
         requires to { reach ≤ℤ pos 500000000 }
@@ -70,7 +70,7 @@ impl TileIndex {
         })
     }
 
-    /// An equal index. Only want of memory refuses it.
+    /// An equal index. Only running out of memory refuses it.
     pub fn copy(&self) -> Result<TileIndex, AllocError>
         ensures { IfOk result (λ copy. copy ≡ self.now) }
     {
@@ -83,7 +83,7 @@ impl TileIndex {
     }
 
     /// Puts an entry into each tile that is met by the bounds, where they are widened by the reach. No entry has the id
-    /// yet. Only want of memory refuses it, and the index is then as it was.
+    /// yet. Only running out of memory refuses it, and the index is then as it was.
     pub fn insert(&mut self, id: u32, bounds: Bounds) -> Result<(), AllocError>
         requires bounds { FitsIndex bounds }
         requires absent { IsAbsent id self.old.entries }
@@ -95,7 +95,7 @@ impl TileIndex {
     {
         let entry = Entry { id, bounds };
         let area = Area::around(2 * self.reach, bounds);
-        self.grid.make_room(area)?;
+        self.grid.reserve_one(area)?;
         self.boxes.put(entry)?;
         self.held += self.grid.vacant(area);
         self.grid.put(area, entry);
@@ -189,7 +189,7 @@ impl TileIndex {
     }
 
     /// The numbers, rising, of the tiles with an entry that one of the boxes meets once it is widened by the reach; with
-    /// `all`, of all tiles with an entry. Only want of memory refuses it.
+    /// `all`, of all tiles with an entry. Only running out of memory refuses it.
     pub fn dirty(&self, boxes: &[Bounds], all: bool) -> Result<Vec<u32>, AllocError>
         requires { All (λ b. FitsIndex b) boxes.now }
         ensures tiles { IfOk result (λ tiles. tiles.items ≡ dirty_of self.now boxes.now all) }

@@ -4,7 +4,7 @@ ghost use Rattle.std.specs.Prelude.{◌≡◌, ℕ, ◌+◌, ◌≤◌, ◌<◌,
 ghost use Rattle.geo_seg.specs.Boxes.{FitsIndex};
 ghost use Rattle.box_index.specs.Tiles.{IsRising, placed, without};
 ghost use Rattle.box_index.specs.Cuts.{IsCut};
-ghost use Rattle.box_index.specs.Kept.{bounds_of, entries_of, far_entries, all_entries, AreFar};
+ghost use Rattle.box_index.specs.BoxSlots.{bounds_of, entries_of, far_entries, all_entries, AreFar};
 
 use crate::entry::Entry;
 use geo_seg::Bounds;
@@ -244,7 +244,7 @@ pub(crate) struct KeptBoxes {
 impl Model for KeptBoxes {
     ghost use Rattle.std.specs.Prelude.{List, length, ◌≤◌};
     ghost use Rattle.box_index.specs.declared.entry.Entry.{Entry};
-    ghost use Rattle.box_index.specs.Kept.{all_entries, AreFar};
+    ghost use Rattle.box_index.specs.BoxSlots.{all_entries, AreFar};
 
     ghost Value = { List Entry };
 
@@ -266,7 +266,7 @@ impl KeptBoxes {
         }
     }
 
-    /// Equal boxes. Only want of memory refuses it.
+    /// Equal boxes. Only running out of memory refuses it.
     pub(crate) fn copy(&self) -> Result<KeptBoxes, AllocError>
         ensures { IfOk result (λ copy. copy ≡ self.now) }
     {

@@ -34,7 +34,7 @@ pub(crate) fn has(entries: &[Entry], id: u32) -> bool
 pub(crate) fn put(entries: &mut Vec<Entry>, entry: Entry)
     requires rising { IsRising entries.old.items }
     requires absent { IsAbsent entry.id entries.old.items }
-    requires room { vec_len entries.old < vec_capacity entries.old }
+    requires capacity { vec_len entries.old < vec_capacity entries.old }
     ensures { entries.new.items ≡ placed entry entries.old.items }
 {
     let place = place_of(entries, entry.id);

@@ -19,7 +19,7 @@ fn push_tile(
 ) -> Result<(), AllocError>
     ensures reached { OnOk result (HasReached bounds
         (near_of index.now tile) ids.old.items ids.new.items) }
-    ensures front { BeginsWith ids.old.items ids.new.items }
+    ensures prefix { BeginsWith ids.old.items ids.new.items }
 {
     for entry in index.near(tile) {
         if do_boxes_meet(bounds, entry.bounds) {
@@ -30,7 +30,7 @@ fn push_tile(
 }
 
 /// Appends the ids of all entries whose boxes meet this one, also by touching; the reach is of no matter. An id comes once for
-/// each tile that both meet: `put_in_order` leaves each once. Only want of memory fails it, and some ids are then missing. What was
+/// each tile that both meet: `put_in_order` leaves each once. Only running out of memory fails it, and some ids are then missing. What was
 /// in the list stays at its front, also then.
 pub fn push_ids_near(
     index: &TileIndex,
@@ -39,7 +39,7 @@ pub fn push_ids_near(
 ) -> Result<(), AllocError>
     requires { FitsIndex bounds }
     ensures reached { OnOk result (HasReached bounds index.now.entries ids.old.items ids.new.items) }
-    ensures front { BeginsWith ids.old.items ids.new.items }
+    ensures prefix { BeginsWith ids.old.items ids.new.items }
 {
     let area = index.area(bounds);
     let end = area.end();

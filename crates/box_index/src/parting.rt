@@ -5,7 +5,7 @@ ghost use Rattle.box_index.specs.declared.entry.Entry.{Entry};
 ghost use Rattle.box_index.specs.declared.shared.Shared.{Shared};
 ghost use Rattle.box_index.specs.Tiles.{tile_count};
 ghost use Rattle.box_index.specs.Areas.{has_tile};
-ghost use Rattle.box_index.specs.Shares.{AreHomed, AreShared, AreReady, IsEven, HasMoved, IsAlike, IsParted, IsReady, list_at};
+ghost use Rattle.box_index.specs.SharedLists.{AreHomed, AreShared, AreReady, IsEven, HasMoved, HasSameEntries, IsParted, IsReady, list_at};
 
 use crate::area::Area;
 use crate::shared::Shared;
@@ -25,7 +25,7 @@ fn take_made(tiles: &mut [u32], lists: &[Shared], tile: usize, parted: Parted) -
     requires homed { AreHomed tiles.old lists.now }
     requires within { tile < tile_count }
     requires to { parted.to < length lists.now }
-    requires alike { (s : Shared) → IsAlike (slice_index_or lists.now parted.from s)
+    requires alike { (s : Shared) → HasSameEntries (slice_index_or lists.now parted.from s)
         (slice_index_or lists.now parted.to s) }
     ensures moved { HasMoved tile tiles.old lists.now tiles.new lists.now }
     ensures taken { result ≡ true → (d : ℕ) → slice_index_or tiles.new tile d ≡ parted.to }
@@ -88,7 +88,7 @@ fn part_tile(
     }
     let number = tiles[tile] as usize;
     if lists[number].home.lies_in(area) {
-        lists[number].make_room()?;
+        lists[number].reserve_one()?;
         return Ok(parted);
     }
     let made = make_list(tiles, lists, area, tile)?;

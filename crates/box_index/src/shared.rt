@@ -4,7 +4,7 @@ ghost use Rattle.std.specs.Prelude.{◌≡◌, [], List, IfOk, OnOk};
 ghost use Rattle.geo_seg.specs.Boxes.{FitsIndex};
 ghost use Rattle.box_index.specs.declared.entry.Entry.{Entry};
 ghost use Rattle.box_index.specs.Tiles.{IsRising, IsAbsent, placed};
-ghost use Rattle.box_index.specs.Shares.{HasRoom, IsAlike, IsEqual, IsPut, IsTaken};
+ghost use Rattle.box_index.specs.SharedLists.{HasCapacity, HasSameEntries, IsEqual, IsPut, IsEntryRemoved};
 
 use crate::area::Area;
 use crate::corners::Corner;
@@ -38,9 +38,9 @@ impl Shared {
 
     /// A copy of the list for the tiles of another area, with room for one more entry.
     pub(crate) fn moved_to(&self, home: Area) -> Result<Shared, AllocError>
-        ensures alike { IfOk result (IsAlike self.now) }
+        ensures alike { IfOk result (HasSameEntries self.now) }
         ensures home { IfOk result (λ copy. copy.home ≡ home) }
-        ensures room { IfOk result HasRoom }
+        ensures capacity { IfOk result HasCapacity }
     {
         let mut entries = Vec::new(*self.entries.allocator());
         entries.extend_from_slice(&self.entries)?;
@@ -66,10 +66,10 @@ impl Shared {
     }
 
     /// Makes room for one more entry.
-    pub(crate) fn make_room(&mut self) -> Result<(), AllocError>
+    pub(crate) fn reserve_one(&mut self) -> Result<(), AllocError>
         ensures same { IsEqual self.old self.new }
-        ensures room { OnOk result (HasRoom self.new) }
-        ensures kept { HasRoom self.old → HasRoom self.new }
+        ensures capacity { OnOk result (HasCapacity self.new) }
+        ensures kept { HasCapacity self.old → HasCapacity self.new }
     {
         self.entries.reserve(1)
     }
@@ -77,7 +77,7 @@ impl Shared {
     /// Puts an entry into its place, or changes nothing where its id is there. There is room for it.
     pub(crate) fn put(&mut self, entry: Entry)
         requires rising { IsRising self.old.entries.items }
-        requires room { IsAbsent entry.id self.old.entries.items → HasRoom self.old }
+        requires capacity { IsAbsent entry.id self.old.entries.items → HasCapacity self.old }
         requires fits { FitsIndex entry.bounds }
         ensures put { IsAbsent entry.id self.old.entries.items → IsPut entry self.old self.new }
         ensures once { (xs : List Entry) → self.old.entries.items ≡ placed entry xs
@@ -93,7 +93,7 @@ impl Shared {
     /// Takes out the entry of this id, if there is one.
     pub(crate) fn take_out(&mut self, id: u32)
         requires { IsRising self.old.entries.items }
-        ensures { IsTaken id self.old self.new }
+        ensures { IsEntryRemoved id self.old self.new }
     {
         take_out(&mut self.entries, id);
     }

@@ -3,7 +3,7 @@
 ghost use Rattle.std.specs.Prelude.{◌≤ℤ◌, ◌||◌, All, pos, true};
 ghost use Rattle.geo_seg.specs.Boxes.{FitsIndex};
 ghost use Rattle.box_index.specs.Tiles.{is_met_by};
-ghost use Rattle.box_index.specs.Spans.{HasAll};
+ghost use Rattle.box_index.specs.TileRanges.{HasAll};
 
 use crate::area::Area;
 use crate::lanes::TILES;

@@ -4,9 +4,9 @@ ghost use Rattle.std.specs.Prelude.{◌≡◌, ℕ, ◌<◌, ◌≤◌, length, 
 ghost use Rattle.geo_seg.specs.Boxes.{FitsIndex};
 ghost use Rattle.box_index.specs.declared.entry.Entry.{Entry};
 ghost use Rattle.box_index.specs.Tiles.{is_met_by, tile_count};
-ghost use Rattle.box_index.specs.Areas.{end_of, LiesIn};
-ghost use Rattle.box_index.specs.Walks.{IsChanged};
-ghost use Rattle.box_index.specs.Shares.{AreHomed, AreReady, AreRising, AreShared, AreChanged, CanTake, IsEven, IsPut, IsTaken, DoMeetAll, vacant_of};
+ghost use Rattle.box_index.specs.Areas.{end_of, IsSubarea};
+ghost use Rattle.box_index.specs.AreaWalks.{IsChanged};
+ghost use Rattle.box_index.specs.SharedLists.{AreHomed, AreReady, AreRising, AreShared, AreListsChanged, CanTake, IsEven, IsPut, IsEntryRemoved, DoMeetAll, vacant_of};
 
 use crate::area::Area;
 use crate::entry::Entry;
@@ -38,8 +38,8 @@ pub(crate) fn put_each(tiles: &[u32], lists: &mut [Shared], area: Area, end: usi
     requires fits { FitsIndex entry.bounds }
     requires end { end ≤ end_of area }
     requires all { DoMeetAll area tiles.now end }
-    ensures { AreChanged (IsPut entry)
-        (λ list. LiesIn list.home area) area tiles.now lists.old lists.new }
+    ensures { AreListsChanged (IsPut entry)
+        (λ list. IsSubarea list.home area) area tiles.now lists.old lists.new }
 {
     let mut tile = area.first();
     'tiles: while tile < end {
@@ -54,7 +54,8 @@ pub(crate) fn take_out_each(tiles: &[u32], lists: &mut [Shared], area: Area, end
     requires rising { AreRising area tiles.now lists.old }
     requires end { end ≤ end_of area }
     requires all { DoMeetAll area tiles.now end }
-    ensures { AreChanged (IsTaken id) (λ list. Unit) area tiles.now lists.old lists.new }
+    ensures { AreListsChanged (IsEntryRemoved id) (λ list.
+        Unit) area tiles.now lists.old lists.new }
 {
     let mut tile = area.first();
     'tiles: while tile < end {

@@ -19,8 +19,10 @@ struct Counts {
 
 impl Counts {
     fn count(&mut self, is_ok: bool)
-        ensures ok { self.new.ok ≡ (if is_ok then min (self.old.ok + 1) (2 ^ 64 - 1) else self.old.ok) }
-        ensures differ { self.new.differ ≡ (if is_ok then self.old.differ else min (self.old.differ + 1) (2 ^ 64 - 1)) }
+        ensures ok { self.new.ok ≡ (if is_ok then min (self.old.ok
+            + 1) (2 ^ 64 - 1) else self.old.ok) }
+        ensures differ { self.new.differ
+            ≡ (if is_ok then self.old.differ else min (self.old.differ + 1) (2 ^ 64 - 1)) }
     {
         if is_ok {
             self.ok = self.ok.saturating_add(1);

@@ -64,7 +64,8 @@ pub fn difference(
     found: &Outcome,
     expected: &Outcome,
 ) -> Result<Option<String>, AllocError>
-    ensures { IfOk result (λ answer. answer ≡ None → (found.now.status ≡ expected.now.status) × (found.now.text.items ≡ expected.now.text.items)) }
+    ensures { IfOk result (λ answer. answer ≡ None → (found.now.status ≡ expected.now.status)
+        × (found.now.text.items ≡ expected.now.text.items)) }
 {
     if found.status == expected.status && found.text == expected.text {
         return Ok(None);

@@ -36,7 +36,7 @@ pub fn told<T: fmt::Display>(alloc: Global, answer: &T) -> Result<Vec<u8>, Fault
     Ok(format!(in alloc; "{answer}")?.into_bytes())
 }
 
-/// A refusal with its place. One without a place is want of memory.
+/// A refusal with its place. One without a place is running out of memory.
 pub fn refused<E: fmt::Display>(
     alloc: Global,
     error: &E,

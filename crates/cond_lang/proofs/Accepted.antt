@@ -7,7 +7,7 @@ use Rattle.cond_lang.specs.declared.cond.Cond.{Cond}
 use Rattle.cond_lang.specs.Found.{read, fault}
 use Rattle.cond_lang.specs.Trees.{CondTree, cond_tree_of}
 use Rattle.cond_lang.specs.Conditions.{reading}
-use Rattle.cond_lang.specs.Grammar.{Spells}
+use Rattle.cond_lang.specs.ConditionGrammar.{Spells}
 use Rattle.cond_lang.proofs.Spelled.{reading_sound}
 use Rattle.cond_lang.proofs.Complete.{reading_complete}
 

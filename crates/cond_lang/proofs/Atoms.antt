@@ -16,8 +16,8 @@ use Rattle.cond_lang.specs.declared.scan.Word.TheVariants.{Property, Function, U
 use Rattle.cond_lang.specs.declared.values.Head.{Head}
 use Rattle.cond_lang.specs.declared.values.Head.TheVariants.{Value, Asked}
 use Rattle.cond_lang.specs.Found.{Found, read, fault, and_then, place, stuck, byte}
-use Rattle.cond_lang.specs.Signs.{is_blank, after_blanks, is_letter, is_digit, is_in_name, front_name, after_name, begins_name, name, word_of, side_of, side, front_text, after_text, text_of, quoted}
-use Rattle.cond_lang.specs.Numbers.{measure}
+use Rattle.cond_lang.specs.Signs.{is_blank, after_blanks, is_letter, is_digit, is_in_name, prefix_name, after_name, begins_name, name, word_of, side_of, side, prefix_text, after_text, text_of, quoted}
+use Rattle.cond_lang.specs.UnitNumbers.{measure}
 use Rattle.cond_lang.specs.Trees.{CondTree, any, all, negated, call, compare}
 use Rattle.cond_lang.specs.Values.{meant, member, begins_number, head, argument, opened, called, with_equals, operator, clash, compared, comparison, atom_of, atom}
 use Rattle.cond_lang.specs.Atoms.{Blanks, AreInName, goes_on, Named, side_letter, Selected, HasNoQuote, Quoted, Measured, Valued, Argued, Called, no_equals, Operates, Compared, Atom}
@@ -51,21 +51,21 @@ stays c cs e = ap (λ b. if b then after_blanks cs else (c ∷ cs)) e
 
 -- ---- names
 
-split_name : (text : List ℕ) → text ≡ front_name text ++ after_name text
+split_name : (text : List ℕ) → text ≡ prefix_name text ++ after_name text
 split_name [] = refl
 split_name (c ∷ cs) = by_test (split_name cs) (is_in_name c) refl
   where
-    by_test : cs ≡ front_name cs ++ after_name cs → (b : Bool) → is_in_name c ≡ b → c ∷ cs ≡ front_name (c ∷ cs) ++ after_name (c ∷ cs)
+    by_test : cs ≡ prefix_name cs ++ after_name cs → (b : Bool) → is_in_name c ≡ b → c ∷ cs ≡ prefix_name (c ∷ cs) ++ after_name (c ∷ cs)
     by_test h true e = rw e (ap (λ y. c ∷ y) h)
     by_test h false e = rw e refl
 
-front_in_name : (text : List ℕ) → AreInName (front_name text)
-front_in_name [] = tt
-front_in_name (c ∷ cs) = by_test (front_in_name cs) (is_in_name c) refl
+prefix_in_name : (text : List ℕ) → AreInName (prefix_name text)
+prefix_in_name [] = tt
+prefix_in_name (c ∷ cs) = by_test (prefix_in_name cs) (is_in_name c) refl
   where
-    by_test : AreInName (front_name cs) → (b : Bool) → is_in_name c ≡ b → AreInName (front_name (c ∷ cs))
-    by_test h true e = subst AreInName (sym (ap (λ b. if b then (c ∷ front_name cs) else []) e)) (e, h)
-    by_test h false e = subst AreInName (sym (ap (λ b. if b then (c ∷ front_name cs) else []) e)) tt
+    by_test : AreInName (prefix_name cs) → (b : Bool) → is_in_name c ≡ b → AreInName (prefix_name (c ∷ cs))
+    by_test h true e = subst AreInName (sym (ap (λ b. if b then (c ∷ prefix_name cs) else []) e)) (e, h)
+    by_test h false e = subst AreInName (sym (ap (λ b. if b then (c ∷ prefix_name cs) else []) e)) tt
 
 after_stops : (text : List ℕ) → goes_on (after_name text) ≡ false
 after_stops [] = refl
@@ -75,26 +75,26 @@ after_stops (c ∷ cs) = by_test (after_stops cs) (is_in_name c) refl
     by_test h true e = ap goes_on (ap (λ b. if b then after_name cs else (c ∷ cs)) e) ∙ h
     by_test h false e = ap goes_on (ap (λ b. if b then after_name cs else (c ∷ cs)) e) ∙ e
 
-begins_front : (text : List ℕ) → begins_name text ≡ true → begins_name (front_name text) ≡ true
-begins_front [] h = h
-begins_front (c ∷ cs) h = ap begins_name (ap (λ b. if (b || is_digit c) then (c ∷ front_name cs) else []) h) ∙ h
+begins_prefix : (text : List ℕ) → begins_name text ≡ true → begins_name (prefix_name text) ≡ true
+begins_prefix [] h = h
+begins_prefix (c ∷ cs) h = ap begins_name (ap (λ b. if (b || is_digit c) then (c ∷ prefix_name cs) else []) h) ∙ h
 
 pub name_sound : (n : ℕ) (text w r : List ℕ) → name n text ≡ read w r → Named w text r
 name_sound n text w r h = by_test (begins_name text) refl
   where
     by_test : (b : Bool) → begins_name text ≡ b → Named w text r
     by_test true e =
-        let k : read (front_name text) (after_name text) ≡ read w r = sym (ap (λ b. if b then read (front_name text) (after_name text) else stuck n text) e) ∙ h in
-        let word : front_name text ≡ w = grind (arith, k) in
+        let k : read (prefix_name text) (after_name text) ≡ read w r = sym (ap (λ b. if b then read (prefix_name text) (after_name text) else stuck n text) e) ∙ h in
+        let word : prefix_name text ≡ w = grind (arith, k) in
         let rest : after_name text ≡ r = grind (arith, k) in
-        subst (λ y. Named y text r) word (subst (λ y. Named (front_name text) text y) rest (split_name text, front_in_name text, begins_front text e, after_stops text))
+        subst (λ y. Named y text r) word (subst (λ y. Named (prefix_name text) text y) rest (split_name text, prefix_in_name text, begins_prefix text e, after_stops text))
     by_test false e =
-        let k : stuck n text ≡ read w r = sym (ap (λ b. if b then read (front_name text) (after_name text) else stuck n text) e) ∙ h in absurd (grind (arith, k))
+        let k : stuck n text ≡ read w r = sym (ap (λ b. if b then read (prefix_name text) (after_name text) else stuck n text) e) ∙ h in absurd (grind (arith, k))
 
-front_of : (w r : List ℕ) → AreInName w → goes_on r ≡ false → front_name (w ++ r) ≡ w
-front_of [] [] a s = refl
-front_of [] (c ∷ cs) a s = ap (λ b. if b then (c ∷ front_name cs) else []) s
-front_of (c ∷ cs) r a s = ap (λ b. if b then (c ∷ front_name (cs ++ r)) else []) a.0 ∙ ap (λ y. c ∷ y) (front_of cs r a.1 s)
+prefix_of : (w r : List ℕ) → AreInName w → goes_on r ≡ false → prefix_name (w ++ r) ≡ w
+prefix_of [] [] a s = refl
+prefix_of [] (c ∷ cs) a s = ap (λ b. if b then (c ∷ prefix_name cs) else []) s
+prefix_of (c ∷ cs) r a s = ap (λ b. if b then (c ∷ prefix_name (cs ++ r)) else []) a.0 ∙ ap (λ y. c ∷ y) (prefix_of cs r a.1 s)
 
 after_of : (w r : List ℕ) → AreInName w → goes_on r ≡ false → after_name (w ++ r) ≡ r
 after_of [] [] a s = refl
@@ -107,8 +107,8 @@ begins_of (c ∷ cs) r h = h
 
 pub name_complete : (n : ℕ) (text w r : List ℕ) → Named w text r → name n text ≡ read w r
 name_complete n text w r h =
-    ap (name n) h.0 ∙ ap (λ b. if b then read (front_name (w ++ r)) (after_name (w ++ r)) else stuck n (w ++ r)) (begins_of w r h.2)
-    ∙ ap (λ y. read y (after_name (w ++ r))) (front_of w r h.1 h.3) ∙ ap (read w) (after_of w r h.1 h.3)
+    ap (name n) h.0 ∙ ap (λ b. if b then read (prefix_name (w ++ r)) (after_name (w ++ r)) else stuck n (w ++ r)) (begins_of w r h.2)
+    ∙ ap (λ y. read y (after_name (w ++ r))) (prefix_of w r h.1 h.3) ∙ ap (read w) (after_of w r h.1 h.3)
 
 name_stays : (text w r : List ℕ) → Named w text r → after_blanks text ≡ text
 name_stays text [] r h = absurd (let k = h.2 in grind (arith, k))
@@ -184,37 +184,37 @@ member_complete n calls s w text r x (u, v, y, word, sided, dot, blanks, named, 
 
 -- ---- texts
 
-pub split_text : (text : List ℕ) → text ≡ front_text text ++ after_text text
+pub split_text : (text : List ℕ) → text ≡ prefix_text text ++ after_text text
 split_text [] = refl
 split_text (c ∷ cs) = by_test (split_text cs) (c == 39) refl
   where
-    by_test : cs ≡ front_text cs ++ after_text cs → (b : Bool) → (c == 39) ≡ b → c ∷ cs ≡ front_text (c ∷ cs) ++ after_text (c ∷ cs)
+    by_test : cs ≡ prefix_text cs ++ after_text cs → (b : Bool) → (c == 39) ≡ b → c ∷ cs ≡ prefix_text (c ∷ cs) ++ after_text (c ∷ cs)
     by_test h true e = rw e refl
     by_test h false e = rw e (ap (λ y. c ∷ y) h)
 
-pub front_has_none : (text : List ℕ) → HasNoQuote (front_text text)
-front_has_none [] = tt
-front_has_none (c ∷ cs) = by_test (front_has_none cs) (c == 39) refl
+pub prefix_has_none : (text : List ℕ) → HasNoQuote (prefix_text text)
+prefix_has_none [] = tt
+prefix_has_none (c ∷ cs) = by_test (prefix_has_none cs) (c == 39) refl
   where
-    by_test : HasNoQuote (front_text cs) → (b : Bool) → (c == 39) ≡ b → HasNoQuote (front_text (c ∷ cs))
-    by_test h true e = subst HasNoQuote (sym (ap (λ b. if b then [] else (c ∷ front_text cs)) e)) tt
-    by_test h false e = subst HasNoQuote (sym (ap (λ b. if b then [] else (c ∷ front_text cs)) e)) ((λ same. let k : (39 == 39) ≡ false = subst (λ y. (y == 39) ≡ false) same e in grind (arith, k)), h)
+    by_test : HasNoQuote (prefix_text cs) → (b : Bool) → (c == 39) ≡ b → HasNoQuote (prefix_text (c ∷ cs))
+    by_test h true e = subst HasNoQuote (sym (ap (λ b. if b then [] else (c ∷ prefix_text cs)) e)) tt
+    by_test h false e = subst HasNoQuote (sym (ap (λ b. if b then [] else (c ∷ prefix_text cs)) e)) ((λ same. let k : (39 == 39) ≡ false = subst (λ y. (y == 39) ≡ false) same e in grind (arith, k)), h)
 
 pub quoted_sound : (n : ℕ) (text signs r : List ℕ) → quoted n text ≡ read signs r → Quoted signs (39 ∷ text) r
 unfolding quoted
-quoted_sound n text signs r h = by_test (is_utf8 (front_text text)) refl
+quoted_sound n text signs r h = by_test (is_utf8 (prefix_text text)) refl
   where
-    by_test : (b : Bool) → is_utf8 (front_text text) ≡ b → Quoted signs (39 ∷ text) r
+    by_test : (b : Bool) → is_utf8 (prefix_text text) ≡ b → Quoted signs (39 ∷ text) r
     by_test true e =
         let k : text_of n text true ≡ read signs r = sym (ap (text_of n text) e) ∙ h in
         let first = then_back (byte n 39 (after_text text)) _ signs r k in
         let close = byte_back n 39 (after_text text) first.1 first.2 in
         let last = first.3 in
-        let same : front_text text ≡ signs = grind (arith, last) in
+        let same : prefix_text text ≡ signs = grind (arith, last) in
         let end : first.1 ≡ r = grind (arith, last) in
         subst (λ y. Quoted y (39 ∷ text) r) same
-        (subst (Quoted (front_text text) (39 ∷ text)) end
-        (ap (λ y. 39 ∷ y) (split_text text ∙ ap (λ y. front_text text ++ y) close), front_has_none text, e))
+        (subst (Quoted (prefix_text text) (39 ∷ text)) end
+        (ap (λ y. 39 ∷ y) (split_text text ∙ ap (λ y. prefix_text text ++ y) close), prefix_has_none text, e))
     by_test false e = let k : text_of n text false ≡ read signs r = sym (ap (text_of n text) e) ∙ h in absurd (grind (arith, k))
 
 no_quote : (c : ℕ) → (c ≡ 39 → ⊥) → (c == 39) ≡ false
@@ -224,9 +224,9 @@ no_quote c h = by_test (c == 39) refl
     by_test true e = absurd (h (grind (arith, e)))
     by_test false e = e
 
-front_text_of : (signs r : List ℕ) → HasNoQuote signs → front_text (signs ++ (39 ∷ r)) ≡ signs
-front_text_of [] r h = refl
-front_text_of (c ∷ cs) r h = ap (λ b. if b then [] else (c ∷ front_text (cs ++ (39 ∷ r)))) (no_quote c h.0) ∙ ap (λ y. c ∷ y) (front_text_of cs r h.1)
+prefix_text_of : (signs r : List ℕ) → HasNoQuote signs → prefix_text (signs ++ (39 ∷ r)) ≡ signs
+prefix_text_of [] r h = refl
+prefix_text_of (c ∷ cs) r h = ap (λ b. if b then [] else (c ∷ prefix_text (cs ++ (39 ∷ r)))) (no_quote c h.0) ∙ ap (λ y. c ∷ y) (prefix_text_of cs r h.1)
 
 after_text_of : (signs r : List ℕ) → HasNoQuote signs → after_text (signs ++ (39 ∷ r)) ≡ 39 ∷ r
 after_text_of [] r h = refl
@@ -235,9 +235,9 @@ after_text_of (c ∷ cs) r h = ap (λ b. if b then (c ∷ cs ++ (39 ∷ r)) else
 pub quoted_complete : (n : ℕ) (signs r : List ℕ) → HasNoQuote signs → is_utf8 signs ≡ true → quoted n (signs ++ (39 ∷ r)) ≡ read signs r
 unfolding quoted
 quoted_complete n signs r h e =
-    let front = front_text_of signs r h in
-    ap (text_of n (signs ++ (39 ∷ r))) (ap is_utf8 front ∙ e)
-    ∙ then_read (byte n 39 (after_text (signs ++ (39 ∷ r)))) _ tt r (read signs r) (ap (byte n 39) (after_text_of signs r h)) (ap (λ y. read y r) front)
+    let prefix = prefix_text_of signs r h in
+    ap (text_of n (signs ++ (39 ∷ r))) (ap is_utf8 prefix ∙ e)
+    ∙ then_read (byte n 39 (after_text (signs ++ (39 ∷ r)))) _ tt r (read signs r) (ap (byte n 39) (after_text_of signs r h)) (ap (λ y. read y r) prefix)
 
 -- ---- values
 

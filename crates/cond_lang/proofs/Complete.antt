@@ -7,7 +7,7 @@ use Rattle.cond_lang.specs.Trees.{CondTree, Trees, any, all}
 use Rattle.cond_lang.specs.Values.{atom, head, member}
 use Rattle.cond_lang.specs.Conditions.{joined, begins_with, link, links, chain, alternatives, closed, bang, bracket, plain, shallow, shallow_at, nested_at, negation, disjunction, reading}
 use Rattle.cond_lang.specs.Atoms.{Blanks}
-use Rattle.cond_lang.specs.Grammar.{Members, Chain, Alternatives, Negation, Spells}
+use Rattle.cond_lang.specs.ConditionGrammar.{Members, Chain, Alternatives, Negation, Spells}
 use Rattle.cond_lang.proofs.Steps.{then_read}
 use Rattle.cond_lang.proofs.Turns.{nested_plain}
 use Rattle.cond_lang.proofs.Atoms.{atom_complete}

@@ -4,10 +4,10 @@ use Rattle.std.proofs.lemmas.List.{length-append}
 use Rattle.std.specs.Str.Lossy.{utf8_valid_len}
 use Rattle.cond_lang.specs.declared.error.CondError.TheVariants.{Bad, TypeClash, TooDeep}
 use Rattle.cond_lang.specs.Found.{Found, read, fault, and_then, place}
-use Rattle.cond_lang.specs.Signs.{front_text}
+use Rattle.cond_lang.specs.Signs.{prefix_text}
 use Rattle.cond_lang.specs.Trees.{CondTree}
 use Rattle.cond_lang.specs.Conditions.{reading}
-use Rattle.cond_lang.specs.Fronts.{Passes, GoesOn, IsRefusedLength, IsFirstOfLength, StandsFirst}
+use Rattle.cond_lang.specs.ConditionPrefixes.{Passes, GoesOn, IsRefusedLength, IsFirstOfLength, StandsFirst}
 use Rattle.cond_lang.proofs.Follows.{Anything, Begins}
 use Rattle.cond_lang.proofs.Steady.{Misfit, OnwardFrom}
 use Rattle.cond_lang.proofs.SteadyNumbers.{measure_barred}
@@ -64,7 +64,7 @@ by_cause text k w v eq (inr (inl m)) on = inr (inl (w, v, eq, on, by (measure_ba
     by (inl h) = inl (h.0 ∙ at, h.1)
     by (inr (j, e, h)) = inr (j, e ∙ ap (λ y. y + j) at, h)
 by_cause text k w v eq (inr (inr (ill, e))) on =
-    inr (inr (w, v, eq, on, ill, e ∙ ap (λ y. y + utf8_valid_len (front_text v)) (ap (λ y. place (length y) v) eq ∙ place_behind w v)))
+    inr (inr (w, v, eq, on, ill, e ∙ ap (λ y. y + utf8_valid_len (prefix_text v)) (ap (λ y. place (length y) v) eq ∙ place_behind w v)))
 
 pub stands_first : (text : List ℕ) (k : ℕ) → reading text ≡ fault (Bad k) → StandsFirst text k
 stands_first text k h =

@@ -4,7 +4,7 @@ use Rattle.std.specs.Prelude.{Result, Ok, Err, bytes_eq}
 use Rattle.std.specs.Str.{is_utf8}
 use Rattle.std.specs.Char.{is_ascii_digit}
 use Rattle.exact_dec.specs.declared.DecError.{DecError}
-use Rattle.exact_dec.specs.Computed.{after_sign, front_digits, after_digits, with_unit_answer}
+use Rattle.exact_dec.specs.Computed.{after_sign, prefix_digits, after_digits, with_unit_answer}
 use Rattle.cond_lang.specs.declared.terms.Side.{Side}
 use Rattle.cond_lang.specs.declared.error.CondError.TheVariants.{UnknownName, TypeClash}
 use Rattle.cond_lang.specs.declared.terms.Side.TheVariants.{A, B}
@@ -18,7 +18,7 @@ use Rattle.cond_lang.specs.declared.values.Head.{Head}
 use Rattle.cond_lang.specs.declared.values.Head.TheVariants.{Value, Asked}
 use Rattle.cond_lang.specs.Found.{Found, read, fault, and_then, place, stuck, byte}
 use Rattle.cond_lang.specs.Signs.{is_in_name, after_blanks, after_name, after_text, begins_name, name, side, text_of, quoted, word_of}
-use Rattle.cond_lang.specs.Numbers.{digits, fraction, mantissa, power, metric, unit, spelled, in_range, measure}
+use Rattle.cond_lang.specs.UnitNumbers.{digits, fraction, mantissa, power, metric, unit, spelled, in_range, measure}
 use Rattle.cond_lang.specs.Values.{meant, selected, member, begins_number, head, argument, opened, called, with_equals, operator, clash, compared, comparison, atom_of, atom}
 use Rattle.cond_lang.specs.Trees.{CondTree, compare}
 use Rattle.cond_lang.proofs.Links.{blanks_shorter}
@@ -91,7 +91,7 @@ quoted_shrinks n text = by_test (is_utf8 _)
     by_test false = tt
 
 digits_shrinks : (n : ℕ) (text : List ℕ) → Shrinks (digits n text) text
-digits_shrinks n text = either {A = List ℕ} (nat_lt 0 (length (front_digits text))) (read (front_digits text) (after_digits text)) (stuck n text) text (digits_shorter text) tt
+digits_shrinks n text = either {A = List ℕ} (nat_lt 0 (length (prefix_digits text))) (read (prefix_digits text) (after_digits text)) (stuck n text) text (digits_shorter text) tt
 
 pub fraction_shrinks : (zero_so_far : Bool) (text : List ℕ) → Shrinks (fraction zero_so_far text) text
 fraction_shrinks z [] = omega arith

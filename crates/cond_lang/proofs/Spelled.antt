@@ -7,7 +7,7 @@ use Rattle.cond_lang.specs.Conditions.{begins_with, twice, link, links, chain, a
 use Rattle.cond_lang.specs.Atoms.{AreBlanks, Blanks, Atom}
 use Rattle.cond_lang.proofs.Blanks.{then_back, blanks_of, byte_back}
 use Rattle.cond_lang.proofs.Atoms.{atom_sound}
-use Rattle.cond_lang.specs.Grammar.{Members, Chain, Alternatives, Negated, Bracketed, Negation, Spells}
+use Rattle.cond_lang.specs.ConditionGrammar.{Members, Chain, Alternatives, Negated, Bracketed, Negation, Spells}
 
 module _ (sign : ℕ) (Part : CondTree → List ℕ → List ℕ → Type 0) where
   pub members_on : (ts : List CondTree) (t : CondTree) (text s v rest : List ℕ) → Members sign Part ts text s → Blanks s (sign ∷ sign ∷ v) → Part t v rest → Members sign Part (ts ++ (t ∷ [])) text rest

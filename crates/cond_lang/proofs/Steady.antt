@@ -32,9 +32,9 @@ Next S r z = S z ⊎ SameHead r z
 abbrev pub Stays : List ℕ → Type 0
 Stays z = after_blanks z ≡ z
 
-pub same_front : (w : List ℕ) (c : ℕ) (s z : List ℕ) → SameHead (w ++ (c ∷ s)) (w ++ (c ∷ z))
-same_front [] c s z = refl
-same_front (b ∷ w) c s z = refl
+pub same_prefix : (w : List ℕ) (c : ℕ) (s z : List ℕ) → SameHead (w ++ (c ∷ s)) (w ++ (c ∷ z))
+same_prefix [] c s z = refl
+same_prefix (b ∷ w) c s z = refl
 
 pub next_wider : (S T : List ℕ → Type 0) (r z : List ℕ) → (S z → T z) → Next S r z → Next T r z
 next_wider S T r z wide (inl h) = inl (wide h)
@@ -145,7 +145,7 @@ module _ {B : Type 0} (P : Found B → Type 0) (Spoils : ℕ → List ℕ → �
           λ c s e d z.
               ap (λ y. both f g d y) (append_assoc w x (c ∷ z))
               ∙ then_read (f d (w ++ (x ++ (c ∷ z)))) _ a (x ++ (c ∷ z)) _
-              (one d (x ++ (c ∷ z)) (inr (subst (λ y. SameHead y (x ++ (c ∷ z))) (sym (eq2 ∙ ap (λ y. x ++ y) e)) (same_front x c s z)))) (m.1 c s e d z),
+              (one d (x ++ (c ∷ z)) (inr (subst (λ y. SameHead y (x ++ (c ∷ z))) (sym (eq2 ∙ ap (λ y. x ++ y) e)) (same_prefix x c s z)))) (m.1 c s e d z),
         )
         cause (inr s) = inr s
 

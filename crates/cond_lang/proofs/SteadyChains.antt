@@ -11,7 +11,7 @@ use Rattle.cond_lang.proofs.Blanks.{then_back, byte_back}
 use Rattle.cond_lang.proofs.Links.{blanks_shorter}
 use Rattle.cond_lang.proofs.Follows.{Anything, Begins, Closes}
 use Rattle.cond_lang.proofs.Steady.{Reader, SameHead, Next, KeptAt, OpensTo, Misfit, OnwardFrom, BarredAt, Steady}
-use Rattle.cond_lang.proofs.Steady.{both, past, same_front, bad_error, barred_at_once, both_kept, both_opens, both_left, both_right}
+use Rattle.cond_lang.proofs.Steady.{both, past, same_prefix, bad_error, barred_at_once, both_kept, both_opens, both_left, both_right}
 use Rattle.cond_lang.proofs.SteadyForms.{stuck_place, Eating, same_steady, both_eating}
 use Rattle.cond_lang.proofs.SteadySigns.{byte_same, closes_stays, past_kept, past_opens, past_barred, past_steady, sign_eating}
 
@@ -243,7 +243,7 @@ module _ (P : Found CondTree → Type 0) (Spoils : ℕ → List ℕ → ℕ → 
         cause (inl m) = inl (
           m.0,
           λ c s e d z.
-              same_doubled ts d (w ++ (c ∷ z)) (head_begins sign u (w ++ (c ∷ z)) begins (subst (λ y. SameHead y (w ++ (c ∷ z))) (sym (eq ∙ ap (λ y. w ++ y) e)) (same_front w c s z)))
+              same_doubled ts d (w ++ (c ∷ z)) (head_begins sign u (w ++ (c ∷ z)) begins (subst (λ y. SameHead y (w ++ (c ∷ z))) (sym (eq ∙ ap (λ y. w ++ y) e)) (same_prefix w c s z)))
               ∙ m.1 c s e d z,
         )
         cause (inr s) = inr s

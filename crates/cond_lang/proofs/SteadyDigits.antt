@@ -2,11 +2,11 @@
 use Rattle.std.proofs.Common.{◌≡◌, ℕ, zero, suc, ◌+◌, ◌<◌, Bool, true, false, IsTrue, ◌==◌, ◌||◌, ◌&&◌, nat_lt, if◌then◌else◌, List, [], ◌∷◌, ◌++◌, length, refl, sym, ◌∙◌, ap, subst, arith, lt-ltb}
 use Rattle.std.proofs.lemmas.List.{length-append}
 use Rattle.std.specs.Char.{is_ascii_digit}
-use Rattle.exact_dec.specs.Computed.{front_digits, after_digits}
+use Rattle.exact_dec.specs.Computed.{prefix_digits, after_digits}
 use Rattle.cond_lang.specs.declared.error.CondError.TheVariants.{Bad}
 use Rattle.cond_lang.specs.Found.{Found, read, fault, and_then, place, stuck}
 use Rattle.cond_lang.specs.Signs.{is_letter, is_digit, is_in_name}
-use Rattle.cond_lang.specs.Numbers.{digits, are_zeros}
+use Rattle.cond_lang.specs.UnitNumbers.{digits, are_zeros}
 use Rattle.cond_lang.proofs.Follows.{EndsValue, Begins, Anything}
 use Rattle.cond_lang.proofs.Steady.{Reader, Next, OpensTo, Steady, barred_at_once}
 use Rattle.cond_lang.proofs.SteadyForms.{Eating, Other, other_next, not_read, no_fault, stuck_place, read_value, read_rest}
@@ -85,21 +85,21 @@ abbrev AreDigits : List ℕ → Type 0
 AreDigits [] = Unit {0}
 AreDigits (c ∷ cs) = IsTrue (is_ascii_digit c) × AreDigits cs
 
-split_digits : (text : List ℕ) → text ≡ front_digits text ++ after_digits text
+split_digits : (text : List ℕ) → text ≡ prefix_digits text ++ after_digits text
 split_digits [] = refl
 split_digits (c ∷ cs) = by_test (split_digits cs) (is_ascii_digit c) refl
   where
-    by_test : cs ≡ front_digits cs ++ after_digits cs → (b : Bool) → is_ascii_digit c ≡ b → c ∷ cs ≡ front_digits (c ∷ cs) ++ after_digits (c ∷ cs)
+    by_test : cs ≡ prefix_digits cs ++ after_digits cs → (b : Bool) → is_ascii_digit c ≡ b → c ∷ cs ≡ prefix_digits (c ∷ cs) ++ after_digits (c ∷ cs)
     by_test h true e = rw e (ap (λ y. c ∷ y) h)
     by_test h false e = rw e refl
 
-front_are_digits : (text : List ℕ) → AreDigits (front_digits text)
-front_are_digits [] = tt
-front_are_digits (c ∷ cs) = by_test (front_are_digits cs) (is_ascii_digit c) refl
+prefix_are_digits : (text : List ℕ) → AreDigits (prefix_digits text)
+prefix_are_digits [] = tt
+prefix_are_digits (c ∷ cs) = by_test (prefix_are_digits cs) (is_ascii_digit c) refl
   where
-    by_test : AreDigits (front_digits cs) → (b : Bool) → is_ascii_digit c ≡ b → AreDigits (front_digits (c ∷ cs))
-    by_test h true e = subst AreDigits (sym (ap (λ b. if b then (c ∷ front_digits cs) else []) e)) (e, h)
-    by_test h false e = subst AreDigits (sym (ap (λ b. if b then (c ∷ front_digits cs) else []) e)) tt
+    by_test : AreDigits (prefix_digits cs) → (b : Bool) → is_ascii_digit c ≡ b → AreDigits (prefix_digits (c ∷ cs))
+    by_test h true e = subst AreDigits (sym (ap (λ b. if b then (c ∷ prefix_digits cs) else []) e)) (e, h)
+    by_test h false e = subst AreDigits (sym (ap (λ b. if b then (c ∷ prefix_digits cs) else []) e)) tt
 
 after_digits_other : (text : List ℕ) → Other is_ascii_digit (after_digits text)
 after_digits_other [] = tt
@@ -109,10 +109,10 @@ after_digits_other (c ∷ cs) = by_test (after_digits_other cs) (is_ascii_digit 
     by_test h true e = subst (Other is_ascii_digit) (sym (ap (λ b. if b then after_digits cs else (c ∷ cs)) e)) h
     by_test h false e = subst (Other is_ascii_digit) (sym (ap (λ b. if b then after_digits cs else (c ∷ cs)) e)) e
 
-front_digits_of : (w r : List ℕ) → AreDigits w → Other is_ascii_digit r → front_digits (w ++ r) ≡ w
-front_digits_of [] [] a s = refl
-front_digits_of [] (c ∷ cs) a s = ap (λ b. if b then (c ∷ front_digits cs) else []) s
-front_digits_of (c ∷ cs) r a s = ap (λ b. if b then (c ∷ front_digits (cs ++ r)) else []) a.0 ∙ ap (λ y. c ∷ y) (front_digits_of cs r a.1 s)
+prefix_digits_of : (w r : List ℕ) → AreDigits w → Other is_ascii_digit r → prefix_digits (w ++ r) ≡ w
+prefix_digits_of [] [] a s = refl
+prefix_digits_of [] (c ∷ cs) a s = ap (λ b. if b then (c ∷ prefix_digits cs) else []) s
+prefix_digits_of (c ∷ cs) r a s = ap (λ b. if b then (c ∷ prefix_digits (cs ++ r)) else []) a.0 ∙ ap (λ y. c ∷ y) (prefix_digits_of cs r a.1 s)
 
 after_digits_of : (w r : List ℕ) → AreDigits w → Other is_ascii_digit r → after_digits (w ++ r) ≡ r
 after_digits_of [] [] a s = refl
@@ -124,27 +124,27 @@ next_no_digit text r z e next = other_next is_ascii_digit Stops r z (stops_digit
 
 digits_of : (n : ℕ) (w z : List ℕ) → AreDigits w → nat_lt 0 (length w) ≡ true → Other is_ascii_digit z → digits n (w ++ z) ≡ read w z
 digits_of n w z a some o =
-    ap (λ b. if b then read (front_digits (w ++ z)) (after_digits (w ++ z)) else stuck n (w ++ z)) (ap (λ y. nat_lt 0 (length y)) (front_digits_of w z a o) ∙ some)
-    ∙ ap (λ y. read y (after_digits (w ++ z))) (front_digits_of w z a o) ∙ ap (read w) (after_digits_of w z a o)
+    ap (λ b. if b then read (prefix_digits (w ++ z)) (after_digits (w ++ z)) else stuck n (w ++ z)) (ap (λ y. nat_lt 0 (length y)) (prefix_digits_of w z a o) ∙ some)
+    ∙ ap (λ y. read y (after_digits (w ++ z))) (prefix_digits_of w z a o) ∙ ap (read w) (after_digits_of w z a o)
 
 abbrev DigitsRead : List ℕ → List ℕ → List ℕ → Type 0
-DigitsRead u a r = (front_digits u ≡ a) × (after_digits u ≡ r) × (nat_lt 0 (length (front_digits u)) ≡ true)
+DigitsRead u a r = (prefix_digits u ≡ a) × (after_digits u ≡ r) × (nat_lt 0 (length (prefix_digits u)) ≡ true)
 
 digits_back : (n : ℕ) (u a r : List ℕ) → digits n u ≡ read a r → DigitsRead u a r
-digits_back n u a r h = by_test (nat_lt 0 (length (front_digits u))) refl
+digits_back n u a r h = by_test (nat_lt 0 (length (prefix_digits u))) refl
   where
-    by_test : (b : Bool) → nat_lt 0 (length (front_digits u)) ≡ b → DigitsRead u a r
+    by_test : (b : Bool) → nat_lt 0 (length (prefix_digits u)) ≡ b → DigitsRead u a r
     by_test true e =
-        let k : read (front_digits u) (after_digits u) ≡ read a r = sym (ap (λ b. if b then read (front_digits u) (after_digits u) else stuck n u) e) ∙ h in
-        (read_value (front_digits u) a (after_digits u) r k, read_rest (front_digits u) a (after_digits u) r k, e)
-    by_test false e = not_read (Bad (place n u)) a r (sym (ap (λ b. if b then read (front_digits u) (after_digits u) else stuck n u) e) ∙ h)
+        let k : read (prefix_digits u) (after_digits u) ≡ read a r = sym (ap (λ b. if b then read (prefix_digits u) (after_digits u) else stuck n u) e) ∙ h in
+        (read_value (prefix_digits u) a (after_digits u) r k, read_rest (prefix_digits u) a (after_digits u) r k, e)
+    by_test false e = not_read (Bad (place n u)) a r (sym (ap (λ b. if b then read (prefix_digits u) (after_digits u) else stuck n u) e) ∙ h)
 
 pub digits_shorten : (n : ℕ) (u a r : List ℕ) → digits n u ≡ read a r → length r < length u
 digits_shorten n u a r h =
     let b = digits_back n u a r h in
-    let l : length u ≡ length (front_digits u) + length (after_digits u) = ap length (split_digits u) ∙ length-append (front_digits u) (after_digits u) in
+    let l : length u ≡ length (prefix_digits u) + length (after_digits u) = ap length (split_digits u) ∙ length-append (prefix_digits u) (after_digits u) in
     let s : length (after_digits u) ≡ length r = ap length b.1 in
-    let p : 0 < length (front_digits u) = some (length (front_digits u)) b.2 in
+    let p : 0 < length (prefix_digits u) = some (length (prefix_digits u)) b.2 in
     omega (arith, l, s, p)
   where
     some : (n : ℕ) → nat_lt 0 n ≡ true → 0 < n
@@ -153,14 +153,14 @@ digits_shorten n u a r h =
 
 digits_none : (n c : ℕ) (z : List ℕ) → is_ascii_digit c ≡ false → digits n (c ∷ z) ≡ stuck n (c ∷ z)
 digits_none n c z e =
-    ap (λ b. if nat_lt 0 (length (if b then (c ∷ front_digits z) else [])) then read (if b then (c ∷ front_digits z) else []) (if b then after_digits z else (c ∷ z)) else stuck n (c ∷ z)) e
+    ap (λ b. if nat_lt 0 (length (if b then (c ∷ prefix_digits z) else [])) then read (if b then (c ∷ prefix_digits z) else []) (if b then after_digits z else (c ∷ z)) else stuck n (c ∷ z)) e
 
 digits_lost : (n : ℕ) (u : List ℕ) (k : ℕ) → digits n u ≡ fault (Bad k) → k ≡ place n u
-digits_lost n u k h = by_test (nat_lt 0 (length (front_digits u))) refl
+digits_lost n u k h = by_test (nat_lt 0 (length (prefix_digits u))) refl
   where
-    by_test : (b : Bool) → nat_lt 0 (length (front_digits u)) ≡ b → k ≡ place n u
-    by_test true e = no_fault (Bad k) (front_digits u) (after_digits u) (sym (ap (λ b. if b then read (front_digits u) (after_digits u) else stuck n u) e) ∙ h)
-    by_test false e = stuck_place {A = List ℕ} n k u (sym (ap (λ b. if b then read (front_digits u) (after_digits u) else stuck n u) e) ∙ h)
+    by_test : (b : Bool) → nat_lt 0 (length (prefix_digits u)) ≡ b → k ≡ place n u
+    by_test true e = no_fault (Bad k) (prefix_digits u) (after_digits u) (sym (ap (λ b. if b then read (prefix_digits u) (after_digits u) else stuck n u) e) ∙ h)
+    by_test false e = stuck_place {A = List ℕ} n k u (sym (ap (λ b. if b then read (prefix_digits u) (after_digits u) else stuck n u) e) ∙ h)
 
 digits_other : (n : ℕ) (c : ℕ) (s : List ℕ) (k : ℕ) → digits n (c ∷ s) ≡ fault (Bad k) → is_ascii_digit c ≡ false
 digits_other n c s k h = by_test (is_ascii_digit c) refl
@@ -168,16 +168,16 @@ digits_other n c s k h = by_test (is_ascii_digit c) refl
     by_test : (b : Bool) → is_ascii_digit c ≡ b → is_ascii_digit c ≡ false
     by_test false e = e
     by_test true e =
-        no_fault (Bad k) (c ∷ front_digits s) (after_digits s)
-        (sym (ap (λ b. if nat_lt 0 (length (if b then (c ∷ front_digits s) else [])) then read (if b then (c ∷ front_digits s) else []) (if b then after_digits s else (c ∷ s)) else stuck n (c ∷ s)) e
-        ∙ ap (λ b. if b then read (c ∷ front_digits s) (after_digits s) else stuck n (c ∷ s)) (lt-ltb 0 (length (c ∷ front_digits s)) (omega arith))) ∙ h)
+        no_fault (Bad k) (c ∷ prefix_digits s) (after_digits s)
+        (sym (ap (λ b. if nat_lt 0 (length (if b then (c ∷ prefix_digits s) else [])) then read (if b then (c ∷ prefix_digits s) else []) (if b then after_digits s else (c ∷ s)) else stuck n (c ∷ s)) e
+        ∙ ap (λ b. if b then read (c ∷ prefix_digits s) (after_digits s) else stuck n (c ∷ s)) (lt-ltb 0 (length (c ∷ prefix_digits s)) (omega arith))) ∙ h)
 
 abbrev pub some_digits : Reader (List ℕ)
 some_digits e u = digits e.0 u
 
 -- any digits; and whether all digits so far are 0
 abbrev pub more_digits : Bool → Reader Bool
-more_digits zeros e u = read (zeros && are_zeros (front_digits u)) (after_digits u)
+more_digits zeros e u = read (zeros && are_zeros (prefix_digits u)) (after_digits u)
 
 module _ {B : Type 0} (P : Found B → Type 0) (Spoils : ℕ → List ℕ → ℕ → Type 0) where
   digits_open : OpensTo P Spoils some_digits Anything Stops (Begins 48)
@@ -189,9 +189,9 @@ module _ {B : Type 0} (P : Found B → Type 0) (Spoils : ℕ → List ℕ → �
   digits_steady = record {
     reads = λ e u a r h. tt;
     kept = λ e u a r h. let b = digits_back e.0 u a r h in (
-      front_digits u,
-      split_digits u ∙ ap (λ y. front_digits u ++ y) b.1,
-      λ d z next. digits_of d.0 (front_digits u) z (front_are_digits u) b.2 (next_no_digit u r z b.1 next) ∙ ap (λ y. read y z) b.0,
+      prefix_digits u,
+      split_digits u ∙ ap (λ y. prefix_digits u ++ y) b.1,
+      λ d z next. digits_of d.0 (prefix_digits u) z (prefix_are_digits u) b.2 (next_no_digit u r z b.1 next) ∙ ap (λ y. read y z) b.0,
     );
     barred = λ e u k h. barred_at_once P Spoils some_digits Anything Stops (Begins 48) e.0 u k digits_open (digits_lost e.0 u k h)
         (λ c s eq d z. digits_none d.0 c z (digits_other e.0 c s k (subst (λ y. digits e.0 y ≡ fault (Bad k)) eq h)));
@@ -205,20 +205,20 @@ module _ {B : Type 0} (P : Found B → Type 0) (Spoils : ℕ → List ℕ → �
   more_digits_steady zeros = record {
     reads = λ e u a r h. tt;
     kept = λ e u a r h.
-        let value = read_value (zeros && are_zeros (front_digits u)) a (after_digits u) r h in
-        let rest = read_rest (zeros && are_zeros (front_digits u)) a (after_digits u) r h in (
-          front_digits u,
-          split_digits u ∙ ap (λ y. front_digits u ++ y) rest,
+        let value = read_value (zeros && are_zeros (prefix_digits u)) a (after_digits u) r h in
+        let rest = read_rest (zeros && are_zeros (prefix_digits u)) a (after_digits u) r h in (
+          prefix_digits u,
+          split_digits u ∙ ap (λ y. prefix_digits u ++ y) rest,
           λ d z next.
               let o = next_no_digit u r z rest next in
-              ap (λ y. read (zeros && are_zeros y) (after_digits (front_digits u ++ z))) (front_digits_of (front_digits u) z (front_are_digits u) o)
-              ∙ ap (read (zeros && are_zeros (front_digits u))) (after_digits_of (front_digits u) z (front_are_digits u) o) ∙ ap (λ y. read y z) value,
+              ap (λ y. read (zeros && are_zeros y) (after_digits (prefix_digits u ++ z))) (prefix_digits_of (prefix_digits u) z (prefix_are_digits u) o)
+              ∙ ap (read (zeros && are_zeros (prefix_digits u))) (after_digits_of (prefix_digits u) z (prefix_are_digits u) o) ∙ ap (λ y. read y z) value,
         );
-    barred = λ e u k h. no_fault (Bad k) (zeros && are_zeros (front_digits u)) (after_digits u) h;
+    barred = λ e u k h. no_fault (Bad k) (zeros && are_zeros (prefix_digits u)) (after_digits u) h;
     opens = λ K ends. let o = ends (zeros && true) tt in (
       o.0,
       o.1,
-      λ e. subst P (sym (ap (λ y. K e (zeros && are_zeros y) (after_digits o.0)) (front_digits_of [] o.0 tt (stops_digit o.0 o.1))
+      λ e. subst P (sym (ap (λ y. K e (zeros && are_zeros y) (after_digits o.0)) (prefix_digits_of [] o.0 tt (stops_digit o.0 o.1))
           ∙ ap (K e (zeros && true)) (after_digits_of [] o.0 tt (stops_digit o.0 o.1)))) (o.2 e),
     );
   }

@@ -7,7 +7,7 @@ use Rattle.cond_lang.specs.Found.{Found, read, fault, and_then, place, stuck}
 use Rattle.cond_lang.proofs.Blanks.{then_back}
 use Rattle.cond_lang.proofs.Follows.{Anything}
 use Rattle.cond_lang.proofs.Steady.{Reader, SameHead, Next, KeptAt, Eats, OpensTo, Misfit, OnwardFrom, BarredAt, Steady}
-use Rattle.cond_lang.proofs.Steady.{refused, bad_error, next_wider, same_front, both, opens_onward, barred_at_once, both_steady}
+use Rattle.cond_lang.proofs.Steady.{refused, bad_error, next_wider, same_prefix, both, opens_onward, barred_at_once, both_steady}
 
 -- ---- what was read or refused
 
@@ -207,7 +207,7 @@ module _ {B : Type 0} (P : Found B → Type 0) (Spoils : ℕ → List ℕ → �
 
     kept_by : (c : ℕ) → Chosen F Q S c ⊎ StuckWith F c → (e : ℕ × List ℕ) (cs : List ℕ) (a : A) (r : List ℕ) → F e (c ∷ cs) ≡ read a r → KeptAt F S (c ∷ cs) a r
     kept_by c (inr h) e cs a r eq = not_read (Bad (place e.0 (c ∷ cs))) a r (sym (h e cs) ∙ eq)
-    kept_by c (inl h) e cs a r eq = by_front k.0 k.1 k.2
+    kept_by c (inl h) e cs a r eq = by_prefix k.0 k.1 k.2
       where
         found : h.chosen e (c ∷ cs) ≡ read a r
         found = sym (h.same e cs) ∙ eq
@@ -215,9 +215,9 @@ module _ {B : Type 0} (P : Found B → Type 0) (Spoils : ℕ → List ℕ → �
         k : KeptAt h.chosen S (c ∷ cs) a r
         k = h.taken.steady.kept e (c ∷ cs) a r found
 
-        by_front : (w : List ℕ) → c ∷ cs ≡ w ++ r → ((d : ℕ × List ℕ) (z : List ℕ) → Next S r z → h.chosen d (w ++ z) ≡ read a z) → KeptAt F S (c ∷ cs) a r
-        by_front [] same one = absurd (h.taken.eats e (c ∷ cs) a (subst (λ y. h.chosen e (c ∷ cs) ≡ read a y) (sym same) found))
-        by_front (b ∷ w) same one =
+        by_prefix : (w : List ℕ) → c ∷ cs ≡ w ++ r → ((d : ℕ × List ℕ) (z : List ℕ) → Next S r z → h.chosen d (w ++ z) ≡ read a z) → KeptAt F S (c ∷ cs) a r
+        by_prefix [] same one = absurd (h.taken.eats e (c ∷ cs) a (subst (λ y. h.chosen e (c ∷ cs) ≡ read a y) (sym same) found))
+        by_prefix (b ∷ w) same one =
             let first : c ≡ b = grind (arith, same) in
             (b ∷ w, same, λ d z next. ap (λ y. F d (y ∷ (w ++ z))) (sym first) ∙ h.same d (w ++ z) ∙ ap (λ y. h.chosen d (y ∷ (w ++ z))) first ∙ one d z next)
 
@@ -225,19 +225,19 @@ module _ {B : Type 0} (P : Found B → Type 0) (Spoils : ℕ → List ℕ → �
     barred_by c (inr h) e cs k eq =
         barred_at_once P Spoils F Q S T e.0 (c ∷ cs) k opens (stuck_place {A = A} e.0 k (c ∷ cs) (sym (h e cs) ∙ eq))
         (λ b s same d z. let first : c ≡ b = grind (arith, same) in subst (λ y. F d (y ∷ z) ≡ stuck d.0 (y ∷ z)) first (h d z))
-    barred_by c (inl h) e cs k eq = by_front b.0 b.1 b.2 b.3 b.4
+    barred_by c (inl h) e cs k eq = by_prefix b.0 b.1 b.2 b.3 b.4
       where
         b : BarredAt P Spoils h.chosen Q S Anything e.0 (c ∷ cs) k
         b = h.taken.steady.barred e (c ∷ cs) k (sym (h.same e cs) ∙ eq)
 
-        by_front : (w v : List ℕ) → c ∷ cs ≡ w ++ v → Misfit P Spoils h.chosen w v e.0 k ⊎ Spoils e.0 v k → OnwardFrom P Spoils h.chosen Q S Anything (c ∷ cs) w
+        by_prefix : (w v : List ℕ) → c ∷ cs ≡ w ++ v → Misfit P Spoils h.chosen w v e.0 k ⊎ Spoils e.0 v k → OnwardFrom P Spoils h.chosen Q S Anything (c ∷ cs) w
             → BarredAt P Spoils F Q S T e.0 (c ∷ cs) k
-        by_front [] v same (inr s) on = ([], v, same, inr s, opens_onward P Spoils F Q S T (c ∷ cs) opens)
-        by_front [] v same (inl m) on =
+        by_prefix [] v same (inr s) on = ([], v, same, inr s, opens_onward P Spoils F Q S T (c ∷ cs) opens)
+        by_prefix [] v same (inl m) on =
             subst (λ q. BarredAt P Spoils F Q S T e.0 q k) (sym same)
             (barred_at_once P Spoils F Q S T e.0 v k opens m.0
             (λ y s eq2 d z. let first : c ≡ y = grind (arith, same, eq2) in subst (λ x. F d (x ∷ z) ≡ h.chosen d (x ∷ z)) first (h.same d z) ∙ m.1 y s eq2 d z))
-        by_front (x ∷ w) v same why on = (
+        by_prefix (x ∷ w) v same why on = (
           x ∷ w,
           v,
           same,
@@ -327,7 +327,7 @@ module _ {B : Type 0} (P : Found B → Type 0) (Spoils : ℕ → List ℕ → �
         cause (inl m) = inl (
           m.0,
           λ c s eq d z.
-              turn_other test g h d (b.0 ++ (c ∷ z)) (other_same test (b.0 ++ (c ∷ s)) (b.0 ++ (c ∷ z)) (same_front b.0 c s z) (subst (Other test) (b.2 ∙ ap (λ y. b.0 ++ y) eq) o))
+              turn_other test g h d (b.0 ++ (c ∷ z)) (other_same test (b.0 ++ (c ∷ s)) (b.0 ++ (c ∷ z)) (same_prefix b.0 c s z) (subst (Other test) (b.2 ∙ ap (λ y. b.0 ++ y) eq) o))
               ∙ m.1 c s eq d z,
         )
         cause (inr s) = inr s

@@ -6,8 +6,8 @@ use Rattle.exact_dec.specs.declared.DecError.{DecError}
 use Rattle.exact_dec.specs.Computed.{after_sign, with_unit_answer, parts_of}
 use Rattle.cond_lang.specs.declared.error.CondError.TheVariants.{Bad}
 use Rattle.cond_lang.specs.Found.{Found, read, fault, and_then, place, stuck}
-use Rattle.cond_lang.specs.Numbers.{mantissa, power, unit, spelled, in_range, measure}
-use Rattle.cond_lang.specs.Fronts.{LengthGoesOn, IsFirstOfLength, IsOutOfRange, IsRefusedLength}
+use Rattle.cond_lang.specs.UnitNumbers.{mantissa, power, unit, spelled, in_range, measure}
+use Rattle.cond_lang.specs.ConditionPrefixes.{LengthGoesOn, IsFirstOfLength, IsOutOfRange, IsRefusedLength}
 use Rattle.cond_lang.proofs.Steps.{then_read, then_fault}
 use Rattle.cond_lang.proofs.Blanks.{then_back}
 use Rattle.cond_lang.proofs.Follows.{EndsValue, Begins, Anything}
@@ -28,15 +28,15 @@ number_steady = spelled_steady Whole Never
 
 -- ---- what is left of a text at its end
 
-front_whole : (w z : List ℕ) → take (length (w ++ z) - length z) (w ++ z) ≡ w
-front_whole w z =
+prefix_whole : (w z : List ℕ) → take (length (w ++ z) - length z) (w ++ z) ≡ w
+prefix_whole w z =
     let l = length-append w z in
     let n : length (w ++ z) - length z ≡ length w = omega (arith, l) in
-    ap (λ m. take m (w ++ z)) n ∙ front w
+    ap (λ m. take m (w ++ z)) n ∙ prefix w
   where
-    front : (w : List ℕ) → take (length w) (w ++ z) ≡ w
-    front [] = refl
-    front (c ∷ w) = ap (λ y. c ∷ y) (front w)
+    prefix : (w : List ℕ) → take (length w) (w ++ z) ≡ w
+    prefix [] = refl
+    prefix (c ∷ w) = ap (λ y. c ∷ y) (prefix w)
 
 -- ---- the range
 
@@ -79,14 +79,14 @@ measure_in_parts n u nm r h =
 measure_of_parts : (n : ℕ) (w z : List ℕ) (nm : ℤ) → spelled n (w ++ z) ≡ read tt z → in_range n (w ++ z) z (with_unit_answer w) ≡ read nm z → measure n (w ++ z) ≡ read nm z
 unfolding measure
 measure_of_parts n w z nm s h =
-    then_read (spelled n (w ++ z)) (λ _ rest. Answered n (w ++ z) rest) tt z (read nm z) s (ap (λ y. in_range n (w ++ z) z (with_unit_answer y)) (front_whole w z) ∙ h)
+    then_read (spelled n (w ++ z)) (λ _ rest. Answered n (w ++ z) rest) tt z (read nm z) s (ap (λ y. in_range n (w ++ z) z (with_unit_answer y)) (prefix_whole w z) ∙ h)
 
 pub measure_kept : (e : ℕ × List ℕ) (u : List ℕ) (nm : ℤ) (r : List ℕ) → measure e.0 u ≡ read nm r → KeptAt (λ d. measure d.0) EndsValue u nm r
 measure_kept e u nm r h =
     let p = measure_in_parts e.0 u nm r h in
     let k = number_steady.kept e u tt r p.0 in
     let value : in_range e.0 u r (with_unit_answer k.0) ≡ read nm r =
-    ap (λ y. in_range e.0 u r (with_unit_answer y)) (sym (front_whole k.0 r) ∙ ap (λ y. take (length y - length r) y) (sym k.1)) ∙ p.1 in
+    ap (λ y. in_range e.0 u r (with_unit_answer y)) (sym (prefix_whole k.0 r) ∙ ap (λ y. take (length y - length r) y) (sym k.1)) ∙ p.1 in
     (k.0, k.1, λ d z next. measure_of_parts d.0 k.0 z nm (k.2 d z next) ((in_range_back e.0 u r (with_unit_answer k.0) nm r value).1 d.0 (k.0 ++ z) z))
 
 zero_alone : (n : ℕ) → measure n (48 ∷ []) ≡ read (pos 0) []
@@ -122,8 +122,8 @@ refused_whole : (n : ℕ) (u r : List ℕ) (k : ℕ) → spelled n u ≡ read tt
 refused_whole n u r k s h =
     let p = number_steady.kept (n, []) u tt r s in
     let lost = in_range_lost n u r (with_unit_answer (take (length u - length r) u)) k h in
-    let front : take (length u - length r) u ≡ p.0 = ap (λ y. take (length y - length r) y) p.1 ∙ front_whole p.0 r in
-    inl (lost.0, (p.0, r, p.1, subst (λ y. spelled (length p.0) y ≡ read tt []) (append-nil p.0) (p.2 (length p.0, []) [] (inl refl)), subst (λ y. IsOutOfRange (with_unit_answer y)) front lost.1))
+    let prefix : take (length u - length r) u ≡ p.0 = ap (λ y. take (length y - length r) y) p.1 ∙ prefix_whole p.0 r in
+    inl (lost.0, (p.0, r, p.1, subst (λ y. spelled (length p.0) y ≡ read tt []) (append-nil p.0) (p.2 (length p.0, []) [] (inl refl)), subst (λ y. IsOutOfRange (with_unit_answer y)) prefix lost.1))
 
 as_it_is : (x : Found (Unit {0})) → and_then x (λ a z. read tt z) ≡ x
 as_it_is (read a r) = refl

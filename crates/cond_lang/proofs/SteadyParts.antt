@@ -3,7 +3,7 @@ use Rattle.std.proofs.Common.{◌≡◌, ◌⊎◌, inl, inr, ℕ, ◌≤◌, �
 use Rattle.exact_dec.specs.Computed.{after_sign}
 use Rattle.cond_lang.specs.declared.error.CondError.TheVariants.{Bad}
 use Rattle.cond_lang.specs.Found.{Found, read, and_then, place, stuck, byte}
-use Rattle.cond_lang.specs.Numbers.{digits, are_zeros, fraction, mantissa, power, metric, unit, spelled}
+use Rattle.cond_lang.specs.UnitNumbers.{digits, are_zeros, fraction, mantissa, power, metric, unit, spelled}
 use Rattle.cond_lang.proofs.Blanks.{then_back}
 use Rattle.cond_lang.proofs.Follows.{EndsValue, Begins, Anything}
 use Rattle.cond_lang.proofs.Shrinking.{Shrinks, sign_shorter, fraction_shrinks}

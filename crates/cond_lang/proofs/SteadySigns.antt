@@ -11,7 +11,7 @@ use Rattle.cond_lang.proofs.Steps.{then_read}
 use Rattle.cond_lang.proofs.Blanks.{blanks_of, byte_back, skipped}
 use Rattle.cond_lang.proofs.Links.{blanks_shorter}
 use Rattle.cond_lang.proofs.Follows.{Anything, Begins, Closes}
-use Rattle.cond_lang.proofs.Steady.{Reader, SameHead, Next, Stays, KeptAt, Eats, both, past, same_front, OpensTo, Misfit, OnwardFrom, BarredAt, Steady, barred_at_once}
+use Rattle.cond_lang.proofs.Steady.{Reader, SameHead, Next, Stays, KeptAt, Eats, both, past, same_prefix, OpensTo, Misfit, OnwardFrom, BarredAt, Steady, barred_at_once}
 use Rattle.cond_lang.proofs.SteadyForms.{no_fault, stuck_place, Eating, both_eating, map_eating, pure_steady, Chosen, chosen_as}
 
 -- ---- one byte
@@ -62,9 +62,9 @@ head_stays (c ∷ s) (d ∷ z) h same = solid_stays d z (subst (λ y. is_blank y
 past_blanks : (bs w z : List ℕ) → AreBlanks bs → Stays (w ++ z) → after_blanks ((bs ++ w) ++ z) ≡ w ++ z
 past_blanks bs w z blank h = skipped ((bs ++ w) ++ z) (w ++ z) (bs, blank, append_assoc bs w z) ∙ h
 
-front_stays : (w r z : List ℕ) → Stays (w ++ r) → (w ≡ [] → Stays z) → Stays (w ++ z)
-front_stays [] r z h none = none refl
-front_stays (c ∷ w) r z h none = head_stays (c ∷ (w ++ r)) (c ∷ (w ++ z)) h refl
+prefix_stays : (w r z : List ℕ) → Stays (w ++ r) → (w ≡ [] → Stays z) → Stays (w ++ z)
+prefix_stays [] r z h none = none refl
+prefix_stays (c ∷ w) r z h none = head_stays (c ∷ (w ++ r)) (c ∷ (w ++ z)) h refl
 
 pub begins_stays : (b : ℕ) → is_blank b ≡ false → (z : List ℕ) → Begins b z → Stays z
 begins_stays b solid z h = ap after_blanks h.1 ∙ solid_stays b h.0 solid ∙ sym h.1
@@ -114,7 +114,7 @@ module _ {B : Type 0} (P : Found B → Type 0) (Spoils : ℕ → List ℕ → �
         behind w z eq (inr h) none = head_stays r z (subst Stays (eq ∙ ap (λ y. y ++ r) none) (after_blanks_stay u)) h
 
         begins : (z : List ℕ) → Next S r z → Stays (w ++ z)
-        begins z next = front_stays w r z (subst Stays eq (after_blanks_stay u)) (behind w z eq next)
+        begins z next = prefix_stays w r z (subst Stays eq (after_blanks_stay u)) (behind w z eq next)
 
     module _ (staying : (z : List ℕ) → T z → Stays z) where
       next_stays : (r z : List ℕ) → Stays r → Next T r z → Stays z
@@ -135,7 +135,7 @@ module _ {B : Type 0} (P : Found B → Type 0) (Spoils : ℕ → List ℕ → �
           cause (inl m) = inl (
             m.0,
             λ c s e d z.
-                ap (f d) (past_blanks b.0 w (c ∷ z) b.1 (head_stays (w ++ (c ∷ s)) (w ++ (c ∷ z)) (subst Stays (eq ∙ ap (λ y. w ++ y) e) (after_blanks_stay u)) (same_front w c s z)))
+                ap (f d) (past_blanks b.0 w (c ∷ z) b.1 (head_stays (w ++ (c ∷ s)) (w ++ (c ∷ z)) (subst Stays (eq ∙ ap (λ y. w ++ y) e) (after_blanks_stay u)) (same_prefix w c s z)))
                 ∙ m.1 c s e d z,
           )
           cause (inr s) = inr s

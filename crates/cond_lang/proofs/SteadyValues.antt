@@ -16,13 +16,13 @@ use Rattle.cond_lang.specs.declared.scan.Word.TheVariants.{Property, Function, U
 use Rattle.cond_lang.specs.declared.values.Head.{Head}
 use Rattle.cond_lang.specs.declared.values.Head.TheVariants.{Value, Asked}
 use Rattle.cond_lang.specs.Found.{Found, read, fault, and_then, place, stuck, byte}
-use Rattle.cond_lang.specs.Signs.{front_name, after_name, begins_name, name, word_of, side_of, side, front_text, after_text, text_of, quoted}
-use Rattle.cond_lang.specs.Numbers.{measure}
+use Rattle.cond_lang.specs.Signs.{prefix_name, after_name, begins_name, name, word_of, side_of, side, prefix_text, after_text, text_of, quoted}
+use Rattle.cond_lang.specs.UnitNumbers.{measure}
 use Rattle.cond_lang.specs.Values.{meant, selected, member}
 use Rattle.cond_lang.specs.Atoms.{goes_on, side_letter, no_equals}
 use Rattle.cond_lang.proofs.Steps.{then_read, then_fault}
 use Rattle.cond_lang.proofs.Blanks.{then_back}
-use Rattle.cond_lang.proofs.Atoms.{name_sound, name_complete, side_sound, side_complete, split_text, front_has_none, quoted_sound, quoted_complete}
+use Rattle.cond_lang.proofs.Atoms.{name_sound, name_complete, side_sound, side_complete, split_text, prefix_has_none, quoted_sound, quoted_complete}
 use Rattle.cond_lang.proofs.Follows.{EndsValue, Begins, Anything}
 use Rattle.cond_lang.proofs.Steady.{Reader, refused, bad_error, SameHead, Next, KeptAt, both, past, Eats, OpensTo, BarredAt, opens_onward, barred_at_once}
 use Rattle.cond_lang.proofs.SteadyForms.{not_read, no_fault, read_rest, read_value, stuck_place, Eating, each_eating}
@@ -40,7 +40,7 @@ empty_utf8 = passes [] IsUtf8-nil
 
 -- a length that is refused, or a text between quotes that is no UTF-8
 abbrev pub Spoilt : ℕ → List ℕ → ℕ → Type 0
-Spoilt n v k = (measure n v ≡ fault (Bad k)) ⊎ ((is_utf8 (front_text v) ≡ false) × (k ≡ place n v + utf8_valid_len (front_text v)))
+Spoilt n v k = (measure n v ≡ fault (Bad k)) ⊎ ((is_utf8 (prefix_text v) ≡ false) × (k ≡ place n v + utf8_valid_len (prefix_text v)))
 
 -- a call stands only where calls may
 abbrev pub Fits : Bool → Head → Type 0
@@ -92,13 +92,13 @@ lengths e u = measure e.0 u
 
 -- where no name begins, nothing is read
 name_stuck : (n : ℕ) (u : List ℕ) → begins_name u ≡ false → name n u ≡ stuck n u
-name_stuck n u e = ap (λ b. if b then read (front_name u) (after_name u) else stuck n u) e
+name_stuck n u e = ap (λ b. if b then read (prefix_name u) (after_name u) else stuck n u) e
 
 name_bad : (n : ℕ) (u : List ℕ) (k : ℕ) → name n u ≡ fault (Bad k) → (begins_name u ≡ false) × (k ≡ place n u)
 name_bad n u k h = by (begins_name u) refl
   where
     by : (b : Bool) → begins_name u ≡ b → (begins_name u ≡ false) × (k ≡ place n u)
-    by true e = no_fault (Bad k) (front_name u) (after_name u) (sym (ap (λ b. if b then read (front_name u) (after_name u) else stuck n u) e) ∙ h)
+    by true e = no_fault (Bad k) (prefix_name u) (after_name u) (sym (ap (λ b. if b then read (prefix_name u) (after_name u) else stuck n u) e) ∙ h)
     by false e = (e, stuck_place {A = List ℕ} n k u (sym (name_stuck n u e) ∙ h))
 
 -- ---- sides
@@ -273,11 +273,11 @@ module _ {X : Type 0} (P : Found X → Type 0) where
 
   quoted_barred : (e : ℕ × List ℕ) (u : List ℕ) (k : ℕ) → quoted e.0 u ≡ fault (Bad k) → BarredAt P Spoilt texts Anything Anything (Begins 39) e.0 u k
   unfolding quoted
-  quoted_barred e u k h = by (is_utf8 (front_text u)) refl
+  quoted_barred e u k h = by (is_utf8 (prefix_text u)) refl
     where
-      by : (b : Bool) → is_utf8 (front_text u) ≡ b → BarredAt P Spoilt texts Anything Anything (Begins 39) e.0 u k
+      by : (b : Bool) → is_utf8 (prefix_text u) ≡ b → BarredAt P Spoilt texts Anything Anything (Begins 39) e.0 u k
       by false f =
-          let i : refused (List ℕ) (Bad (place e.0 u + utf8_valid_len (front_text u))) ≡ fault (Bad k) = sym (ap (text_of e.0 u) f) ∙ h in
+          let i : refused (List ℕ) (Bad (place e.0 u + utf8_valid_len (prefix_text u))) ≡ fault (Bad k) = sym (ap (text_of e.0 u) f) ∙ h in
           ([], u, refl, inr (inr (f, grind (arith, i))), λ K ends. let o = quoted_opens K ends in (o.0, inl o.1, o.2))
       by true f = at_end (after_text u) refl
         where
@@ -288,19 +288,19 @@ module _ {X : Type 0} (P : Found X → Type 0) where
           at_end (c ∷ cs) g =
               let sign = quote_found u c cs g in
               let closes : byte e.0 39 (after_text u) ≡ read tt cs = ap (byte e.0 39) (g ∙ ap (λ y. y ∷ cs) sign) ∙ byte_same e.0 39 cs in
-              no_fault (Bad k) (front_text u) cs (sym (then_read (byte e.0 39 (after_text u)) (λ _ rest. read (front_text u) rest) tt cs _ closes refl) ∙ i)
+              no_fault (Bad k) (prefix_text u) cs (sym (then_read (byte e.0 39 (after_text u)) (λ _ rest. read (prefix_text u) rest) tt cs _ closes refl) ∙ i)
           at_end [] g =
-              let j : stuck e.0 [] ≡ fault (Bad k) = sym (ap (λ y. and_then (byte e.0 39 y) (λ _ rest. read (front_text u) rest)) g) ∙ i in (
-                front_text u,
+              let j : stuck e.0 [] ≡ fault (Bad k) = sym (ap (λ y. and_then (byte e.0 39 y) (λ _ rest. read (prefix_text u) rest)) g) ∙ i in (
+                prefix_text u,
                 [],
-                split_text u ∙ ap (λ y. front_text u ++ y) g,
+                split_text u ∙ ap (λ y. prefix_text u ++ y) g,
                 inl (stuck_place {A = List ℕ} e.0 k [] j, λ c s no d z. absurd (grind (arith, no))),
                 λ K ends.
-                    let o = ends (front_text u) tt in (
+                    let o = ends (prefix_text u) tt in (
                       39 ∷ o.0,
-                      begins (front_text u) (split_text u ∙ ap (λ y. front_text u ++ y) g) o.0,
+                      begins (prefix_text u) (split_text u ∙ ap (λ y. prefix_text u ++ y) g) o.0,
                       λ d.
-                          subst P (sym (then_read (quoted d.0 (front_text u ++ (39 ∷ o.0))) (K d) (front_text u) o.0 _ (quoted_complete d.0 (front_text u) o.0 (front_has_none u) f) refl)) (o.2 d),
+                          subst P (sym (then_read (quoted d.0 (prefix_text u ++ (39 ∷ o.0))) (K d) (prefix_text u) o.0 _ (quoted_complete d.0 (prefix_text u) o.0 (prefix_has_none u) f) refl)) (o.2 d),
                     ),
               )
             where

@@ -15,7 +15,7 @@ use Rattle.cond_lang.specs.declared.scan.Word.{Word}
 use Rattle.cond_lang.specs.declared.scan.Word.TheVariants.{Property, Function}
 use Rattle.cond_lang.specs.Found.{read}
 use Rattle.cond_lang.specs.Signs.{is_blank, is_in_name, begins_name, word_of}
-use Rattle.cond_lang.specs.Numbers.{measure}
+use Rattle.cond_lang.specs.UnitNumbers.{measure}
 use Rattle.cond_lang.specs.Trees.{CondTree, any, all, negated, call, compare}
 use Rattle.cond_lang.specs.Values.{begins_number, clash}
 

@@ -1,11 +1,11 @@
 pub mod Atoms
 pub mod Conditions
 pub mod Found
-pub mod Fronts
-pub mod Grammar
-pub mod Kinds
-pub mod Numbers
-pub mod Reasons
+pub mod ConditionPrefixes
+pub mod ConditionGrammar
+pub mod CheckKinds
+pub mod UnitNumbers
+pub mod ConditionReasons
 pub mod Rules
 pub mod Signs
 pub mod TreeCode

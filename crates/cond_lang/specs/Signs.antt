@@ -32,9 +32,9 @@ abbrev pub is_in_name : ℕ → Bool
 is_in_name b = is_letter b || is_digit b
 
 -- the longest run of letters, digits and `_` at the front, and what follows it
-abbrev pub front_name : List ℕ → List ℕ
-front_name [] = []
-front_name (c ∷ cs) = if is_in_name c then (c ∷ front_name cs) else []
+abbrev pub prefix_name : List ℕ → List ℕ
+prefix_name [] = []
+prefix_name (c ∷ cs) = if is_in_name c then (c ∷ prefix_name cs) else []
 
 abbrev pub after_name : List ℕ → List ℕ
 after_name [] = []
@@ -46,7 +46,7 @@ begins_name (c ∷ cs) = is_letter c
 
 -- a name, which begins with a letter or `_`
 abbrev pub name : ℕ → List ℕ → Found (List ℕ)
-name n text = if begins_name text then read (front_name text) (after_name text) else stuck n text
+name n text = if begins_name text then read (prefix_name text) (after_name text) else stuck n text
 
 -- what a name means behind a side and a dot
 abbrev pub word_of : List ℕ → Word
@@ -75,9 +75,9 @@ side n text = and_then (name n text) (side_of n text)
 
 -- ---- texts in single quotes (39)
 
-abbrev pub front_text : List ℕ → List ℕ
-front_text [] = []
-front_text (c ∷ cs) = if c == 39 then [] else (c ∷ front_text cs)
+abbrev pub prefix_text : List ℕ → List ℕ
+prefix_text [] = []
+prefix_text (c ∷ cs) = if c == 39 then [] else (c ∷ prefix_text cs)
 
 abbrev pub after_text : List ℕ → List ℕ
 after_text [] = []
@@ -85,9 +85,9 @@ after_text (c ∷ cs) = if c == 39 then (c ∷ cs) else after_text cs
 
 -- the signs of a text behind its first quote, and the other quote
 abbrev pub text_of : ℕ → List ℕ → Bool → Found (List ℕ)
-text_of n text true = and_then (byte n 39 (after_text text)) (λ _ rest. read (front_text text) rest)
-text_of n text false = fault (Bad (place n text + utf8_valid_len (front_text text)))
+text_of n text true = and_then (byte n 39 (after_text text)) (λ _ rest. read (prefix_text text) rest)
+text_of n text false = fault (Bad (place n text + utf8_valid_len (prefix_text text)))
 
 -- where the signs are no UTF-8, the first byte that is none is bad
 unfoldable pub quoted : ℕ → List ℕ → Found (List ℕ)
-quoted n text = text_of n text (is_utf8 (front_text text))
+quoted n text = text_of n text (is_utf8 (prefix_text text))

@@ -16,7 +16,7 @@ use Rattle.cond_lang.specs.declared.values.Head.{Head}
 use Rattle.cond_lang.specs.declared.values.Head.TheVariants.{Value, Asked}
 use Rattle.cond_lang.specs.Found.{Found, read, fault, and_then, place, stuck, byte}
 use Rattle.cond_lang.specs.Signs.{is_digit, after_blanks, name, word_of, side, quoted}
-use Rattle.cond_lang.specs.Numbers.{measure}
+use Rattle.cond_lang.specs.UnitNumbers.{measure}
 use Rattle.cond_lang.specs.Trees.{CondTree, call, compare}
 
 -- The name behind a side and a dot. Where a value is wanted, a function is no name.

@@ -2,7 +2,7 @@
 
 ghost use Rattle.std.specs.Prelude.{◌≡◌, is_some};
 ghost use Rattle.plain_types.specs.Lengths.{IsLengthIfSome};
-ghost use Rattle.cond_lang.specs.Kinds.{is_assertion};
+ghost use Rattle.cond_lang.specs.CheckKinds.{is_assertion};
 
 use crate::cond::Cond;
 use crate::kind::Kind;

@@ -65,7 +65,8 @@ impl Constraints {
 }
 
 fn copy_cond(alloc: Global, cond: &Option<Cond>) -> Result<Option<Cond>, AllocError>
-    ensures { IfOk result (λ copy. option_map cond_tree_of copy ≡ option_map cond_tree_of cond.now) }
+    ensures { IfOk result (λ copy.
+        option_map cond_tree_of copy ≡ option_map cond_tree_of cond.now) }
 {
     match cond {
         Some(cond) => Ok(Some(cond.copy(alloc)?)),

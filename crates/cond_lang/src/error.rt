@@ -21,13 +21,13 @@ pub enum CondError {
 }
 
 impl HasReason for CondError {
-    ghost use Rattle.cond_lang.specs.Reasons.{cond_reason};
+    ghost use Rattle.cond_lang.specs.ConditionReasons.{cond_reason};
 
     ghost reason_of = { cond_reason };
 
     ghost depth = { 1 };
 
-    /// What it is called, its number and its byte of the text. Want of memory has no number, which is written 0, and no
+    /// What it is called, its number and its byte of the text. Running out of memory has no number, which is written 0, and no
     /// place.
     fn reason(&self) -> Reason {
         match self {
@@ -65,7 +65,7 @@ impl<T: Drop> From<AllocFailed<T>> for CondError {
 impl fmt::Display for CondError {
     ghost use Rattle.std.specs.Prelude.{Some};
     ghost use Rattle.plain_types.specs.Reasons.{written};
-    ghost use Rattle.cond_lang.specs.Reasons.{cond_reason};
+    ghost use Rattle.cond_lang.specs.ConditionReasons.{cond_reason};
 
     ghost output = { λ e. Some (written (cond_reason e)) };
 

@@ -1,7 +1,7 @@
 //! The kinds of what is checked.
 
 ghost use Rattle.std.specs.Prelude.{◌≡◌};
-ghost use Rattle.cond_lang.specs.Kinds.{family, has_own, is_assertion, kind_name, kind_number, special};
+ghost use Rattle.cond_lang.specs.CheckKinds.{family, has_own, is_assertion, kind_name, kind_number, special};
 
 /// How a kind is broken.
 #[derive(Clone, Copy, Debug, Drop, PartialEq, Eq)]

@@ -1,7 +1,7 @@
 //! Rules of a board's design, and the conditions that say of which items they hold.
 //!
 //! The language of conditions is a part of that of KiCad 7 (PCB editor manual, custom design rules): a text is read into a
-//! tree of what it asks. What a text spells is defined in `specs/Grammar`, and where it is refused in `specs/Conditions`.
+//! tree of what it asks. What a text spells is defined in `specs/ConditionGrammar`, and where it is refused in `specs/Conditions`.
 #![tactic(auto)]
 
 mod cond;

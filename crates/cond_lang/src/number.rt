@@ -2,9 +2,9 @@
 
 ghost use Rattle.std.specs.Prelude.{◌≡◌, ◌≤◌, ◌-◌, length, MatchResult};
 ghost use Rattle.plain_types.specs.Limits.{IsInText};
-ghost use Rattle.exact_dec.specs.Computed.{after_sign, front_digits, after_digits};
+ghost use Rattle.exact_dec.specs.Computed.{after_sign, prefix_digits, after_digits};
 ghost use Rattle.cond_lang.specs.Found.{read, fault};
-ghost use Rattle.cond_lang.specs.Numbers.{digits as digits_of, are_zeros as are_zeros_in, fraction as fraction_of, mantissa as mantissa_of, power as power_of, metric as metric_of, unit as unit_of, spelled as spelled_of, measure as measure_of};
+ghost use Rattle.cond_lang.specs.UnitNumbers.{digits as digits_of, are_zeros as are_zeros_in, fraction as fraction_of, mantissa as mantissa_of, power as power_of, metric as metric_of, unit as unit_of, spelled as spelled_of, measure as measure_of};
 
 use crate::error::CondError;
 use crate::scan::{byte, stuck};
@@ -23,7 +23,7 @@ fn skip_sign(text: &[u8]) -> &[u8]
 
 /// The digits at the front, and what is left behind them.
 fn split_digits(text: &[u8]) -> (&[u8], &[u8])
-    ensures front { result.0.now ≡ front_digits text.now }
+    ensures prefix { result.0.now ≡ prefix_digits text.now }
     ensures back { result.1.now ≡ after_digits text.now }
     ensures left { length result.1.now ≤ length text.now }
 {
@@ -43,11 +43,11 @@ fn digits<'t>(whole: usize, text: &'t [u8]) -> Result<(&'t [u8], &'t [u8]), Cond
         (λ e. digits_of whole text.now ≡ fault e) }
     ensures left { MatchResult result (λ p. length p.1.now ≤ length text.now) (λ _. Unit {0}) }
 {
-    let (front, rest) = split_digits(text);
-    if front.is_empty() {
+    let (prefix, rest) = split_digits(text);
+    if prefix.is_empty() {
         return Err(stuck(whole, text));
     }
-    Ok((front, rest))
+    Ok((prefix, rest))
 }
 
 fn are_zeros(digits: &[u8]) -> bool
@@ -68,15 +68,15 @@ fn fraction(zero: bool, text: &[u8]) -> (bool, &[u8])
 {
     match text {
         [first, behind @ ..] if *first == b'.' => {
-            let (front, rest) = split_digits(behind);
-            (zero && are_zeros(front), rest)
+            let (prefix, rest) = split_digits(behind);
+            (zero && are_zeros(prefix), rest)
         }
         _ => (zero, text),
     }
 }
 
 /// Whether the digits of a number are 0, and what is left behind them.
-#[tactic(auto, using(crate::proofs::Steps::then_read, crate::proofs::Steps::then_fault), unfolding(crate::specs::Numbers::mantissa))]
+#[tactic(auto, using(crate::proofs::Steps::then_read, crate::proofs::Steps::then_fault), unfolding(crate::specs::UnitNumbers::mantissa))]
 fn mantissa<'t>(whole: usize, text: &'t [u8]) -> Result<(bool, &'t [u8]), CondError>
     requires fits { IsInText whole }
     requires inside { length text.now ≤ whole }
@@ -89,17 +89,17 @@ fn mantissa<'t>(whole: usize, text: &'t [u8]) -> Result<(bool, &'t [u8]), CondEr
         [] => Err(stuck(whole, text)),
         [first, behind @ ..] => {
             if *first == b'.' {
-                let (front, rest) = digits(whole, behind)?;
-                return Ok((are_zeros(front), rest));
+                let (prefix, rest) = digits(whole, behind)?;
+                return Ok((are_zeros(prefix), rest));
             }
-            let (front, rest) = digits(whole, text)?;
-            Ok(fraction(are_zeros(front), rest))
+            let (prefix, rest) = digits(whole, text)?;
+            Ok(fraction(are_zeros(prefix), rest))
         }
     }
 }
 
 /// What is left behind the exponent, if there is one.
-#[tactic(auto, using(crate::proofs::Steps::then_read, crate::proofs::Steps::then_fault), unfolding(crate::specs::Numbers::power))]
+#[tactic(auto, using(crate::proofs::Steps::then_read, crate::proofs::Steps::then_fault), unfolding(crate::specs::UnitNumbers::power))]
 fn power<'t>(whole: usize, text: &'t [u8]) -> Result<&'t [u8], CondError>
     requires fits { IsInText whole }
     requires inside { length text.now ≤ whole }
@@ -134,7 +134,7 @@ fn metric<'t>(whole: usize, text: &'t [u8]) -> Result<&'t [u8], CondError>
 }
 
 /// What is left behind the unit, which only a number of value 0 may lack.
-#[tactic(auto, unfolding(crate::specs::Numbers::unit))]
+#[tactic(auto, unfolding(crate::specs::UnitNumbers::unit))]
 fn unit<'t>(whole: usize, zero: bool, text: &'t [u8]) -> Result<&'t [u8], CondError>
     requires fits { IsInText whole }
     requires inside { length text.now ≤ whole }
@@ -152,7 +152,7 @@ fn unit<'t>(whole: usize, zero: bool, text: &'t [u8]) -> Result<&'t [u8], CondEr
 }
 
 /// What is left behind a number.
-#[tactic(auto, using(crate::proofs::Steps::then_read, crate::proofs::Steps::then_fault), unfolding(crate::specs::Numbers::spelled))]
+#[tactic(auto, using(crate::proofs::Steps::then_read, crate::proofs::Steps::then_fault), unfolding(crate::specs::UnitNumbers::spelled))]
 fn spelled<'t>(whole: usize, text: &'t [u8]) -> Result<&'t [u8], CondError>
     requires fits { IsInText whole }
     requires inside { length text.now ≤ whole }
@@ -167,7 +167,7 @@ fn spelled<'t>(whole: usize, text: &'t [u8]) -> Result<&'t [u8], CondError>
 }
 
 /// A length of 0 to 500 mm, and what is left behind it.
-#[tactic(auto, using(crate::proofs::Steps::then_read, crate::proofs::Steps::then_fault), unfolding(crate::specs::Numbers::measure))]
+#[tactic(auto, using(crate::proofs::Steps::then_read, crate::proofs::Steps::then_fault), unfolding(crate::specs::UnitNumbers::measure))]
 pub(crate) fn measure<'t>(whole: usize, text: &'t [u8]) -> Result<(Nm, &'t [u8]), CondError>
     requires fits { IsInText whole }
     requires inside { length text.now ≤ whole }

@@ -4,7 +4,7 @@ ghost use Rattle.std.specs.Prelude.{◌≡◌, ◌≤◌, ◌⊎◌, ◌*◌, �
 ghost use Rattle.plain_types.specs.Limits.{IsInText, IsReadable};
 ghost use Rattle.cond_lang.specs.Found.{read, fault};
 ghost use Rattle.cond_lang.specs.Trees.{CondTree, any, all, negated as negated_tree, cond_tree_of, trees_of};
-ghost use Rattle.cond_lang.specs.Grammar.{Spells};
+ghost use Rattle.cond_lang.specs.ConditionGrammar.{Spells};
 ghost use Rattle.cond_lang.specs.Conditions.{begins_with as begins_with_byte, shallow_at, chain, alternatives, negation as negation_of, disjunction, reading, twice};
 
 use crate::cond::{Cond, Conds};
@@ -111,7 +111,8 @@ fn behind_sign<'t>(whole: usize, sign: u8, text: &'t [u8]) -> Result<&'t [u8], C
     ensures found { MatchResult result
         (λ rest. twice whole sign text.now ≡ read tt rest.now)
         (λ e. twice whole sign text.now ≡ fault e) }
-    ensures left { MatchResult result (λ rest. length rest.now + 1 ≤ length text.now) (λ _. Unit {0}) }
+    ensures left { MatchResult result (λ rest. length rest.now + 1 ≤ length text.now) (λ _.
+        Unit {0}) }
 {
     byte(whole, sign, &text[1..])
 }

@@ -6,7 +6,7 @@ ghost use Rattle.std.specs.Str.{is_utf8};
 ghost use Rattle.std.specs.Str.Lossy.{utf8_valid_len};
 ghost use Rattle.plain_types.specs.Limits.{IsInText};
 ghost use Rattle.cond_lang.specs.Found.{read, fault, place as place_of, stuck, byte as byte_of};
-ghost use Rattle.cond_lang.specs.Signs.{is_blank as is_blank_byte, after_blanks, is_in_name as is_in_name_byte, is_letter as is_letter_byte, front_name, after_name, begins_name as begins_name_text, name as name_of, front_text, after_text, side as side_of, quoted as quoted_of, word_of};
+ghost use Rattle.cond_lang.specs.Signs.{is_blank as is_blank_byte, after_blanks, is_in_name as is_in_name_byte, is_letter as is_letter_byte, prefix_name, after_name, begins_name as begins_name_text, name as name_of, prefix_text, after_text, side as side_of, quoted as quoted_of, word_of};
 
 use crate::error::CondError;
 use crate::terms::{Func, Prop, Side};
@@ -119,7 +119,7 @@ fn is_in_name(b: u8) -> bool
 
 /// The longest run of letters, digits and `_` at the front, and what is left behind it.
 fn split_name(text: &[u8]) -> (&[u8], &[u8])
-    ensures front { result.0.now ≡ front_name text.now }
+    ensures prefix { result.0.now ≡ prefix_name text.now }
     ensures back { result.1.now ≡ after_name text.now }
     ensures left { length result.1.now ≤ length text.now }
 {
@@ -179,7 +179,7 @@ pub(crate) fn side<'t>(whole: usize, text: &'t [u8]) -> Result<(Side, &'t [u8]),
 
 /// What stands before the first quote, and what is left from it on.
 fn split_text(text: &[u8]) -> (&[u8], &[u8])
-    ensures front { result.0.now ≡ front_text text.now }
+    ensures prefix { result.0.now ≡ prefix_text text.now }
     ensures back { result.1.now ≡ after_text text.now }
     ensures left { length result.1.now ≤ length text.now }
     ensures whole { length result.0.now ≤ length text.now }

@@ -69,7 +69,7 @@ fn begins_number(b: u8) -> bool
 
 /// A text, a number, or what stands behind a side; and what is left behind it.
 #[tactic(auto, using(crate::proofs::Steps::then_read, crate::proofs::Steps::then_fault, crate::proofs::Steps::then_lost), unfolding(crate::specs::Values::head))]
-fn front<'t>(
+fn prefix<'t>(
     alloc: Global,
     whole: usize,
     calls: bool,
@@ -297,7 +297,7 @@ fn comparison<'t>(
 {
     let at = skip_blanks(text);
     let (op, behind) = operator(whole, at)?;
-    let (right, rest) = front(alloc, whole, false, skip_blanks(behind))?;
+    let (right, rest) = prefix(alloc, whole, false, skip_blanks(behind))?;
     compared(whole, at, left, op, right, rest)
 }
 
@@ -316,7 +316,7 @@ pub(crate) fn atom<'t>(
         (λ e. (e ≡ CondError.OutOfMemory) ⊎ (atom_of_text whole levels text.now ≡ fault e)) }
     ensures left { MatchResult result (λ p. length p.1.now ≤ length text.now) (λ _. Unit {0}) }
 {
-    let (begin, rest) = front(alloc, whole, true, text)?;
+    let (begin, rest) = prefix(alloc, whole, true, text)?;
     match begin {
         Head::Value(left) => comparison(alloc, whole, left, rest),
         Head::Asked(side, func) => called(alloc, whole, levels, side, func, rest),

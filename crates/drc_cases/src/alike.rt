@@ -108,7 +108,7 @@ fn side_by_side<R: AllocGlobal + Threads + Sync>(
     Ok(text)
 }
 
-/// The same of the commands of a script on a board.
+/// What two workers are told of the commands of a script on a board, and whether a caller alone is told the same.
 pub fn told<R: AllocGlobal + Threads + Sync>(
     rt: &R,
     texts: Texts<'_>,

@@ -3,7 +3,7 @@
 ghost use Rattle.std.specs.Prelude.{◌≡◌, ◌<◌, IsTrue, All, OnOk, IfOk, map};
 ghost use Rattle.cond_lang.specs.Rules.{plain_rule};
 ghost use Rattle.pair_check.specs.Rows.{HasItems, HasSource};
-ghost use Rattle.pair_check.specs.Views.{IsWholeView};
+ghost use Rattle.pair_check.specs.CheckViews.{IsWholeView};
 
 use board_items::Board;
 use row_check::{CheckView, Row, Steps, test_item, test_pair};
@@ -34,7 +34,8 @@ fn push_row(view: &CheckView<'_>, row: &Row, rows: &mut Vec<Row>) -> Result<(), 
     requires items { All (HasItems view.now.board.now) rows.old.items }
     requires sources { All (HasSource (map plain_rule view.now.rules.now)) rows.old.items }
     ensures items { OnOk result (All (HasItems view.now.board.now) rows.new.items) }
-    ensures sources { OnOk result (All (HasSource (map plain_rule view.now.rules.now)) rows.new.items) }
+    ensures sources { OnOk result (All
+        (HasSource (map plain_rule view.now.rules.now)) rows.new.items) }
 {
     if has_items(view.board, row) && has_source(view, row) {
         rows.push(*row)?;
@@ -47,7 +48,8 @@ fn push_rows(view: &CheckView<'_>, found: &[Row], rows: &mut Vec<Row>) -> Result
     requires items { All (HasItems view.now.board.now) rows.old.items }
     requires sources { All (HasSource (map plain_rule view.now.rules.now)) rows.old.items }
     ensures items { OnOk result (All (HasItems view.now.board.now) rows.new.items) }
-    ensures sources { OnOk result (All (HasSource (map plain_rule view.now.rules.now)) rows.new.items) }
+    ensures sources { OnOk result (All
+        (HasSource (map plain_rule view.now.rules.now)) rows.new.items) }
 {
     for row in found {
         push_row(view, row, rows)?;
@@ -68,7 +70,8 @@ fn push_pair<L: Ledger>(
     requires items { All (HasItems view.now.board.now) rows.old.items }
     requires sources { All (HasSource (map plain_rule view.now.rules.now)) rows.old.items }
     ensures items { OnOk result (All (HasItems view.now.board.now) rows.new.items) }
-    ensures sources { OnOk result (All (HasSource (map plain_rule view.now.rules.now)) rows.new.items) }
+    ensures sources { OnOk result (All
+        (HasSource (map plain_rule view.now.rules.now)) rows.new.items) }
 {
     if first < second && view.board.get(first).is_some() && view.board.get(second).is_some() {
         let found = test_pair(alloc, view, first, second, steps);
@@ -89,7 +92,8 @@ fn push_pairs<L: Ledger>(
     requires items { All (HasItems view.now.board.now) rows.old.items }
     requires sources { All (HasSource (map plain_rule view.now.rules.now)) rows.old.items }
     ensures items { OnOk result (All (HasItems view.now.board.now) rows.new.items) }
-    ensures sources { OnOk result (All (HasSource (map plain_rule view.now.rules.now)) rows.new.items) }
+    ensures sources { OnOk result (All
+        (HasSource (map plain_rule view.now.rules.now)) rows.new.items) }
 {
     for (second, _) in view.board.iter() {
         push_pair(alloc, view, first, second, rows, steps)?;
@@ -108,7 +112,8 @@ fn push_item(
     requires items { All (HasItems view.now.board.now) rows.old.items }
     requires sources { All (HasSource (map plain_rule view.now.rules.now)) rows.old.items }
     ensures items { OnOk result (All (HasItems view.now.board.now) rows.new.items) }
-    ensures sources { OnOk result (All (HasSource (map plain_rule view.now.rules.now)) rows.new.items) }
+    ensures sources { OnOk result (All
+        (HasSource (map plain_rule view.now.rules.now)) rows.new.items) }
 {
     if view.board.get(id).is_some() {
         let found = test_item(alloc, view, id);
@@ -127,7 +132,8 @@ fn counted<L: Ledger>(
     requires some { 0 < blank.parts }
     requires view { IsWholeView view.now }
     ensures items { IfOk result (λ rows. All (HasItems view.now.board.now) rows.items) }
-    ensures sources { IfOk result (λ rows. All (HasSource (map plain_rule view.now.rules.now)) rows.items) }
+    ensures sources { IfOk result (λ rows.
+        All (HasSource (map plain_rule view.now.rules.now)) rows.items) }
 {
     let mut steps: Steps<L> = Steps::new(blank);
     let mut rows = Vec::new(alloc);
@@ -142,7 +148,8 @@ fn counted<L: Ledger>(
 pub(crate) fn rows_of_all_pairs(alloc: Global, view: &CheckView<'_>) -> Result<Vec<Row>, AllocError>
     requires { IsWholeView view.now }
     ensures items { IfOk result (λ rows. All (HasItems view.now.board.now) rows.items) }
-    ensures sources { IfOk result (λ rows. All (HasSource (map plain_rule view.now.rules.now)) rows.items) }
+    ensures sources { IfOk result (λ rows.
+        All (HasSource (map plain_rule view.now.rules.now)) rows.items) }
 {
     counted::<Brand>(alloc, view, Blank::new(1))
 }

@@ -101,8 +101,8 @@ impl Given {
     /// Where the writes go, of which so many bytes are expected.
     pub fn sink(&self, alloc: Global, expected: usize) -> Result<MemSink, AllocError> {
         let fails = self.failing_writes.as_slice().to_vec(alloc)?;
-        let room = expected.saturating_add(ROOM);
-        MemSink::new(alloc, self.taken_at_once.max(1) as usize, room, fails)
+        let capacity = expected.saturating_add(ROOM);
+        MemSink::new(alloc, self.taken_at_once.max(1) as usize, capacity, fails)
     }
 
     /// How the program ends on this.

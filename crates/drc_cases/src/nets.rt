@@ -1,6 +1,6 @@
 //! The lines of the nets of a board that are not whole, each net by itself.
 
-ghost use Rattle.board_index.specs.Holding.{HoldsItems};
+ghost use Rattle.board_index.specs.IndexedItems.{HoldsItems};
 
 use crate::fault::Reason;
 use board_index::index_of;
@@ -56,12 +56,12 @@ fn write_all(
 }
 
 /// What a report says of the nets of a board, in at most so many bytes.
-pub fn told(alloc: Global, board: &Board, room: usize) -> Option<Vec<u8>> {
+pub fn told(alloc: Global, board: &Board, capacity: usize) -> Option<Vec<u8>> {
     let index = match index_of(alloc, board, 0) {
         Ok(index) => index,
         Err(_) => return None,
     };
-    let mut out = MemSink::new(alloc, usize::MAX, room, Vec::new(alloc)).ok()?;
+    let mut out = MemSink::new(alloc, usize::MAX, capacity, Vec::new(alloc)).ok()?;
     let count = write_all(alloc, board, &index, &mut out).ok()?;
     write_line(b"open nets ", count, b"", &mut out).ok()?;
     out.bytes().to_vec(alloc).ok()

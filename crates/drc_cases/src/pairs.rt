@@ -2,7 +2,7 @@
 //! themselves.
 
 ghost use Rattle.std.specs.Prelude.{◌≤◌, length};
-ghost use Rattle.pair_check.specs.Views.{IsWholeView};
+ghost use Rattle.pair_check.specs.CheckViews.{IsWholeView};
 
 use crate::all_pairs::rows_of_all_pairs;
 use crate::calls::{LIMIT, Texts};

@@ -1,4 +1,4 @@
-//! A session that may meet a want of memory.
+//! A session that may run out of memory.
 
 ghost use Rattle.std.specs.Prelude.{◌<◌, length, map, All};
 ghost use Rattle.edit_script.specs.Commands.{plain_command};
@@ -15,7 +15,7 @@ use std::alloc::AllocGlobal;
 use std::io::Print;
 use std::thread::Threads;
 
-/// Whether a session that met a want of memory answers a command that it is stopped.
+/// Whether a session that ran out of memory answers a command that it is stopped.
 fn is_stopped<R: AllocGlobal + Threads + Sync>(
     rt: &R,
     session: &mut Session,
@@ -29,7 +29,7 @@ fn is_stopped<R: AllocGlobal + Threads + Sync>(
     }
 }
 
-/// Prints whether a session that met a want of memory is stopped: there may be none for a text.
+/// Prints whether a session that ran out of memory is stopped: there may be none for a text.
 fn tell_stopped<R: AllocGlobal + Print + Threads + Sync>(
     rt: &R,
     session: &mut Session,

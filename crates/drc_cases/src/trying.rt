@@ -42,7 +42,7 @@ fn tried<R: Threads + Sync + AllocGlobal>(
     }
 }
 
-/// The same, and how many rows the session that was lent has behind it.
+/// What the trials of the commands give, and how many rows the session that was lent has after them.
 fn tried_and_lent<R: Threads + Sync + AllocGlobal>(
     rt: &R,
     session: &Session,

@@ -34,7 +34,7 @@ fn written<R: AllocGlobal>(
     Ok(text)
 }
 
-/// The same of the texts of a board and of a script.
+/// Writes the board of a text after the commands of the text of a script.
 pub fn told<R: AllocGlobal>(rt: &R, given: &Given, texts: Texts<'_>) -> Result<Vec<u8>, Reason> {
     if texts.board.len() > LIMIT {
         return Err(Reason::TooLong);

@@ -1,7 +1,7 @@
 -- What a fetch of a whole file must answer, by the file alone.
 use Rattle.std.specs.Prelude.{◌≡◌, ◌⊎◌, ℕ, List, Option, None, Result, Err, Vec, IsOk}
 use Rattle.std.specs.declared.alloc.Global.{Global}
-use Rattle.drc_io.specs.Causes.{Rose}
+use Rattle.drc_io.specs.FaultCounts.{Rose}
 use Rattle.drc_io.specs.Files.{HasMore, HasAtMost}
 use Rattle.drc_io.specs.declared.FetchError.{FetchError}
 use Rattle.drc_io.specs.declared.FetchError.TheVariants.{Failed, TooLong, OutOfMemory}

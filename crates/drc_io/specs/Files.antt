@@ -37,11 +37,11 @@ HasAtMost (Some bytes) limit = length bytes ≤ limit
 abbrev pub IsLonger : Option (List (List ℕ × List ℕ)) → List ℕ → ℕ → Type 0
 IsLonger told name limit = IfSome told (λ files. HasMore (file_of files name) limit)
 
--- the text is a front part of the file; nothing was read where it is not there
-abbrev pub IsFrontOf : Option (List ℕ) → List ℕ → Type 0
-IsFrontOf None text = text ≡ []
-IsFrontOf (Some bytes) text = (rest : List ℕ) × (bytes ≡ text ++ rest)
+-- the text is a prefix of the file; nothing was read where it is not there
+abbrev pub IsPrefixOf : Option (List ℕ) → List ℕ → Type 0
+IsPrefixOf None text = text ≡ []
+IsPrefixOf (Some bytes) text = (rest : List ℕ) × (bytes ≡ text ++ rest)
 
--- `IsFrontOf`, of a shelf that tells
-abbrev pub IsFront : Option (List (List ℕ × List ℕ)) → List ℕ → List ℕ → Type 0
-IsFront told name text = IfSome told (λ files. IsFrontOf (file_of files name) text)
+-- `IsPrefixOf`, of a shelf that tells
+abbrev pub IsPrefix : Option (List (List ℕ × List ℕ)) → List ℕ → List ℕ → Type 0
+IsPrefix told name text = IfSome told (λ files. IsPrefixOf (file_of files name) text)

@@ -1,7 +1,7 @@
-pub mod Causes
+pub mod FaultCounts
 pub mod Fetching
 pub mod Files
 pub mod Memory
-pub mod Message
+pub mod FaultMessage
 pub mod NameText
 pub mod Sinks

@@ -1,7 +1,7 @@
 -- A shelf and a sink in memory.
 use Rattle.std.specs.Prelude.{ℕ, ◌≡◌, List, [], ◌++◌, ◌-◌, ◌<◌, ◌≤◌, ◌⊎◌, Bool, Option, None, Some, Vec, length, min, take, drop, Contains, map, if◌then◌else◌}
 use Rattle.std.specs.declared.alloc.Global.{Global}
-use Rattle.drc_io.specs.Causes.{next_count}
+use Rattle.drc_io.specs.FaultCounts.{next_count}
 use Rattle.drc_io.specs.Files.{file_of}
 
 -- a shelf: its files, the numbers of the reads that fail, the most that one read gives, how many reads there were, and its count of faults

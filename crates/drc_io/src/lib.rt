@@ -7,7 +7,7 @@
 
 ghost use Rattle.std.specs.Prelude.{◌≡◌, ◌<◌, ◌≤◌, ◌^◌, ◌⊎◌, ℕ, List, Option, length, vec_len, IfOk, IfErr, IfSome, OnErr};
 ghost use Rattle.std.specs.Io.KnownBytes.{WriteAppends};
-ghost use Rattle.drc_io.specs.Causes.{HasCause, Rose};
+ghost use Rattle.drc_io.specs.FaultCounts.{HasCause, Rose};
 ghost use Rattle.drc_io.specs.Fetching.{Decides};
 ghost use Rattle.drc_io.specs.Files.{ReadsFrom, ReadsBehind, IsWholeFile, IsLonger, file_of};
 ghost use Rattle.drc_io.specs.Sinks.{Wrote};
@@ -58,7 +58,7 @@ pub trait Sink {
     /// How many faults there were. A counter of 64 bits stays at its last value.
     ghost faults: { Self → ℕ };
 
-    /// Appends a front part of the piece and says how many bytes it has, at least one where the piece is not
+    /// Appends a prefix of the piece and says how many bytes it has, at least one where the piece is not
     /// empty. `Failed` comes only where the count of faults rose, and then nothing was appended.
     fn write(&mut self, piece: &[u8]) -> Result<usize, Failed>
         ensures bound { IfOk result (λ n. n ≤ length piece.now) }
@@ -68,7 +68,7 @@ pub trait Sink {
 }
 
 /// Writes the whole text. It takes no memory. `Failed` comes only where the sink's count of faults rose, and then
-/// a front part of the text was written.
+/// a prefix of the text was written.
 pub fn put_all<W: Sink>(sink: &mut W, text: &[u8]) -> Result<(), Failed>
     ensures { Wrote W.written W.faults sink.old sink.new text.now result }
 {
@@ -79,7 +79,7 @@ pub fn put_all<W: Sink>(sink: &mut W, text: &[u8]) -> Result<(), Failed>
     Ok(())
 }
 
-/// Why a file was not fetched. Want of memory has no number.
+/// Why a file was not fetched. Running out of memory has no number.
 #[derive(Clone, Copy, Debug, PartialEq, Eq)]
 pub enum FetchError {
     /// The shelf failed.
@@ -93,7 +93,7 @@ pub enum FetchError {
 
 impl fmt::Display for FetchError {
     ghost use Rattle.std.specs.Prelude.{Some};
-    ghost use Rattle.drc_io.specs.Message.{message_of};
+    ghost use Rattle.drc_io.specs.FaultMessage.{message_of};
 
     ghost output = { λ error. Some (message_of error) };
 

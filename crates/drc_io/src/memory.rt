@@ -1,6 +1,6 @@
 ghost use Rattle.std.specs.Prelude.{◌≡◌, ◌<◌, ◌≤◌, ◌↔◌, [], Some, length, vec_capacity, vec_len, IfOk, IsErr, is_err};
 ghost use Rattle.std.specs.Io.KnownBytes.{WriteAppends};
-ghost use Rattle.drc_io.specs.Causes.{HasCause};
+ghost use Rattle.drc_io.specs.FaultCounts.{HasCause};
 ghost use Rattle.drc_io.specs.Memory.{SinkState, Refuses, taken_of, after_write};
 
 use crate::{Failed, Sink};

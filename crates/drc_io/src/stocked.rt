@@ -1,5 +1,5 @@
 ghost use Rattle.std.specs.Prelude.{◌≡◌, ◌≤◌, ◌↔◌, ◌++◌, ℕ, List, Some, None, min, take, drop, length, IfOk, OnErr, IsErr, MatchOption, MatchResult, is_err};
-ghost use Rattle.drc_io.specs.Causes.{Rose};
+ghost use Rattle.drc_io.specs.FaultCounts.{Rose};
 ghost use Rattle.drc_io.specs.Files.{ReadsFrom, file_of};
 ghost use Rattle.drc_io.specs.Memory.{ShelfState, Misses, shown, after_read, bytes_from};
 
@@ -46,7 +46,7 @@ impl MemShelf {
         MemShelf::in_pieces(files, fails, usize::MAX)
     }
 
-    /// The same, of which a read gives at most `most` bytes. That is at least 1.
+    /// A shelf with these files, of which a read gives at most `most` bytes, at least 1. The reads of the numbers in `fails` fail.
     pub fn in_pieces(files: Vec<(Name, Vec<u8>)>, fails: Vec<u64>, most: usize) -> MemShelf
         requires { 1 ≤ most }
         ensures { result ≡ record {

@@ -21,14 +21,14 @@ pub enum Text {
 }
 
 /// The few bytes.
-pub fn keep_inside(bytes: &[u8]) -> Held
+pub(crate) fn keep_inside(bytes: &[u8]) -> Held
     requires { length bytes.now ≤ 30 }
     ensures { take result.len result.bytes ≡ bytes.now }
 {
-    let mut front = [0; INSIDE];
-    front[..bytes.len()].copy_from_slice(bytes);
+    let mut prefix = [0; INSIDE];
+    prefix[..bytes.len()].copy_from_slice(bytes);
     Held {
-        bytes: front,
+        bytes: prefix,
         len: bytes.len() as u8,
     }
 }

@@ -3,7 +3,7 @@ use Rattle.std.proofs.Common.{◌≡◌, ◌≤◌, ℕ, ◌+◌, List, [], ◌+
 use Rattle.std.proofs.lemmas.List.{drop-drop, drop_at, drop_all}
 use Rattle.std.specs.Io.KnownBytes.{Consumes, IsAtEnd}
 use Rattle.drc_io.specs.Files.{file_of}
-use Rattle.drc_outside.specs.Standing.{Passes, Stands}
+use Rattle.drc_outside.specs.FilePositions.{Passes, IsFileAt}
 
 -- behind k bytes n more were read: what is left stands behind all of them
 pub left_behind : (xs piece ys : List ℕ) (k n : ℕ) → n ≤ length piece → drop k xs ≡ take n piece ++ ys → ys ≡ drop (k + n) xs
@@ -31,10 +31,10 @@ Passes-end (Some xs) b c k n count piece fits within before read end = by c (sub
         ap Some (end ∙ sym (drop_all count xs short))
 
 -- a file of which more was read stands behind that too
-pub Stands-behind : (told : Option (List (List ℕ × List ℕ))) (name : List ℕ) (at n behind : ℕ) (a b : Option (List ℕ)) (buf : List ℕ) → Stands told name at a
-    → n ≤ length buf → Consumes a b (take n buf) → behind ≡ at + n → Stands told name behind b
-Stands-behind None name at n behind a b buf stood fits read same = tt
-Stands-behind (Some files) name at n behind a b buf stood fits read same = by (file_of files name) stood
+pub IsFileAt-behind : (told : Option (List (List ℕ × List ℕ))) (name : List ℕ) (at n behind : ℕ) (a b : Option (List ℕ)) (buf : List ℕ) → IsFileAt told name at a
+    → n ≤ length buf → Consumes a b (take n buf) → behind ≡ at + n → IsFileAt told name behind b
+IsFileAt-behind None name at n behind a b buf stood fits read same = tt
+IsFileAt-behind (Some files) name at n behind a b buf stood fits read same = by (file_of files name) stood
   where
     by : (found : Option (List ℕ)) → IsSomeAnd found (λ bytes. a ≡ Some (drop at bytes)) → IsSomeAnd found (λ bytes. b ≡ Some (drop behind bytes))
     by None none = none
@@ -42,7 +42,7 @@ Stands-behind (Some files) name at n behind a b buf stood fits read same = by (f
 
 -- so does the file that is kept under its name, if it is kept under any
 pub kept_behind : (told : Option (List (List ℕ × List ℕ))) (mine : Option (List ℕ)) (name : List ℕ) (at n behind : ℕ) (a b : Option (List ℕ)) (buf : List ℕ) → IfSome mine (λ known. known ≡ name)
-    → Stands told name at a → n ≤ length buf → Consumes a b (take n buf) → behind ≡ at + n → IfSome mine (λ known. Stands told known behind b)
+    → IsFileAt told name at a → n ≤ length buf → Consumes a b (take n buf) → behind ≡ at + n → IfSome mine (λ known. IsFileAt told known behind b)
 kept_behind told None name at n behind a b buf named stood fits read same = tt
 kept_behind told (Some known) name at n behind a b buf named stood fits read same =
-    subst (λ (k : List ℕ). Stands told k behind b) (sym named) (Stands-behind told name at n behind a b buf stood fits read same)
+    subst (λ (k : List ℕ). IsFileAt told k behind b) (sym named) (IsFileAt-behind told name at n behind a b buf stood fits read same)

@@ -1,2 +1,2 @@
-pub mod Faults
-pub mod Standing
+pub mod OutsideFaults
+pub mod FilePositions

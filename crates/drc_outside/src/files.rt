@@ -1,10 +1,10 @@
 //! Files that are opened by their names.
 
 ghost use Rattle.std.specs.Prelude.{◌≡◌, ◌≤◌, ◌<◌, ◌+◌, ℕ, List, Option, None, IfSome, IfOk, OnOk, OnErr, is_err, length, take};
-ghost use Rattle.drc_io.specs.Causes.{Rose};
+ghost use Rattle.drc_io.specs.FaultCounts.{Rose};
 ghost use Rattle.drc_io.specs.Files.{ReadsFrom};
-ghost use Rattle.drc_outside.specs.Faults.{counted};
-ghost use Rattle.drc_outside.specs.Standing.{Fills, Passes, Stands};
+ghost use Rattle.drc_outside.specs.OutsideFaults.{counted};
+ghost use Rattle.drc_outside.specs.FilePositions.{Fills, Passes, IsFileAt};
 
 use drc_io::{Failed, Name, Shelf};
 use std::alloc::Global;
@@ -24,7 +24,7 @@ pub trait Opens {
     /// Opens the file of this name. It stands at its beginning.
     fn open(&self, name: &str) -> io::Result<Self::File>
         ensures { IfOk result (λ file.
-            Stands (files self.now) name.now 0 (Self.File.Read.remaining file)) };
+            IsFileAt (files self.now) name.now 0 (Self.File.Read.remaining file)) };
 }
 
 /// The files of the system, which tells nothing of them.
@@ -119,7 +119,7 @@ pub struct FileShelf<O: Opens> {
 }
 
 impl<O: Opens> Model for FileShelf<O> {
-    ghost use Rattle.drc_outside.specs.Standing.{Told, IsKept};
+    ghost use Rattle.drc_outside.specs.FilePositions.{Told, IsKept};
 
     ghost Value = { Told };
 
@@ -140,10 +140,11 @@ impl<O: Opens> FileShelf<O> {
         }
     }
 
-    /// The file that is kept, where it is the one to go on with, or else the file of this name, opened anew and read up to the place. It is kept no more.
+    /// The file that is kept, where it is the one to go on with, or else the file of this name, opened again and read up to the place. It
+    /// is kept no more.
     fn take_file(&mut self, name: &str, at: u64) -> io::Result<Opened<O::File>>
         ensures stands { IfOk result (λ opened.
-            Stands self.old.files name.now at (O.File.Read.remaining opened.file)) }
+            IsFileAt self.old.files name.now at (O.File.Read.remaining opened.file)) }
         ensures named { IfOk result (λ opened. IfSome opened.name (λ known. known ≡ name.now)) }
         ensures same { self.new ≡ self.old }
     {
@@ -159,7 +160,7 @@ impl<O: Opens> FileShelf<O> {
     /// Keeps a file for the reads that follow.
     fn keep(&mut self, opened: Opened<O::File>)
         requires { IfSome opened.name (λ name.
-            Stands self.old.files name opened.at (O.File.Read.remaining opened.file)) }
+            IsFileAt self.old.files name opened.at (O.File.Read.remaining opened.file)) }
         ensures { self.new ≡ self.old }
     {
         drop(self.kept.replace(opened));
@@ -186,7 +187,8 @@ impl<O: Opens> Shelf for FileShelf<O> {
 
     ghost faults = { λ s _. s.faults };
 
-    /// A file stays open for the reads that follow, but for a fault. A read at another place opens it anew. The count rises exactly where a read fails.
+    /// A file stays open for the reads that follow, but for a fault. A read at another place opens it again. The count rises exactly where
+    /// a read fails.
     fn read(&mut self, name: &str, at: u64, buf: &mut [u8]) -> Result<usize, Failed>
         ensures bound { IfOk result (λ n. n ≤ length buf.old) }
         ensures bytes { IfOk result (λ n. ReadsFrom self.old.files name.now at n buf.new) }

@@ -2,8 +2,8 @@
 
 ghost use Rattle.std.specs.Prelude.{◌≡◌, ◌<◌, ◌≤◌, IfOk, IfErr, MatchResult, not, length, take};
 ghost use Rattle.std.specs.Io.KnownBytes.{Appends, WriteAppends};
-ghost use Rattle.drc_io.specs.Causes.{HasCause};
-ghost use Rattle.drc_outside.specs.Faults.{counted, takes_all};
+ghost use Rattle.drc_io.specs.FaultCounts.{HasCause};
+ghost use Rattle.drc_outside.specs.OutsideFaults.{counted, takes_all};
 
 use drc_io::{Failed, Sink};
 use std::io::{ErrorKind, Write};

@@ -5,8 +5,8 @@ use Rattle.std.proofs.lemmas.Grind.{flat_map-append}
 use Rattle.std.specs.List.{flat_map}
 use Rattle.std.specs.Io.KnownBytes.{Appends}
 use Rattle.std.proofs.KnownBytes.{Appends-nil, Appends-trans}
-use Rattle.drc_io.specs.Sinks.{AppendsFront, Writes}
-use Rattle.drc_io.proofs.Writing.{AppendsFront-after, AppendsFront-more, Writes-stop}
+use Rattle.drc_io.specs.Sinks.{AppendsPrefix, Writes}
+use Rattle.drc_io.proofs.Writing.{AppendsPrefix-after, AppendsPrefix-more, Writes-stop}
 use Rattle.drc_rows.specs.Buffer.{Puts}
 
 -- nothing is put in
@@ -17,9 +17,9 @@ Puts-none a n pending x = record { bytes = record { sent = []; whole = append-ni
 pub Puts-fails : {S T E D : Type 0} (a b : Option (List ℕ)) (m n : ℕ) (text pending piece kept : List ℕ) (e : D) (r : Result T E) (d : E) → r ≡ Err d
     → text ≡ pending → Writes {T = S} {E = D} a b m n text (Err e) → Puts a b m n pending piece kept r
 Puts-fails a b m n text pending piece kept e r d same is w =
-    rw same record { bytes = subst (λ l. AppendsFront a b (l ++ piece)) is (AppendsFront-more a b text piece w.bytes); later = w.later; failed = w.failed }
+    rw same record { bytes = subst (λ l. AppendsPrefix a b (l ++ piece)) is (AppendsPrefix-more a b text piece w.bytes); later = w.later; failed = w.failed }
 
--- what was pending went out, and then the piece, or a front of it
+-- what was pending went out, and then the piece, or a prefix of it
 pub Puts-past : {S T E D : Type 0} (a b c : Option (List ℕ)) (m n o : ℕ) (text pending piece : List ℕ) (x : S) (r : Result T E)
     → text ≡ pending → Writes {T = S} {E = D} a b m n text (Ok x) → Writes b c n o piece r → Puts a c m o pending piece [] r
 Puts-past a b c m n o text pending piece x (Ok y) is w v = record {
@@ -32,7 +32,7 @@ Puts-past a b c m n o text pending piece x (Ok y) is w v = record {
   failed = tt;
 }
 Puts-past a b c m n o text pending piece x (Err e) is w v = record {
-  bytes = subst (λ l. AppendsFront a c (l ++ piece)) is (AppendsFront-after a b c text piece w.bytes v.bytes);
+  bytes = subst (λ l. AppendsPrefix a c (l ++ piece)) is (AppendsPrefix-after a b c text piece w.bytes v.bytes);
   later = omega (arith, w.later, v.later);
   failed = grind (arith, w.later, v.failed);
 }
@@ -45,7 +45,7 @@ Puts-out a b m n text pending x y is w = record { bytes = record { sent = text; 
 -- nothing was pending, and a piece went out as it is
 pub Puts-through : {T E : Type 0} (a b : Option (List ℕ)) (m n : ℕ) (none piece : List ℕ) (r : Result T E) → none ≡ [] → Writes a b m n piece r → Puts a b m n none piece none r
 Puts-through a b m n none piece (Ok y) is w = record { bytes = record { sent = piece; whole = rw is (sym (append-nil piece)); appended = w.bytes }; later = w.later; failed = tt }
-Puts-through a b m n none piece (Err e) is w = record { bytes = subst (λ l. AppendsFront a b (l ++ piece)) (sym is) w.bytes; later = w.later; failed = w.failed }
+Puts-through a b m n none piece (Err e) is w = record { bytes = subst (λ l. AppendsPrefix a b (l ++ piece)) (sym is) w.bytes; later = w.later; failed = w.failed }
 
 -- a piece at the end of what is kept
 pub Puts-append : {S T E D : Type 0} (a b : Option (List ℕ)) (m n : ℕ) (pending kept piece left : List ℕ) (x : S) (y : T)
@@ -77,7 +77,7 @@ Puts-then a b c m n o pending first kept second left x (Ok y) w v = record {
   failed = tt;
 }
 Puts-then a b c m n o pending first kept second left x (Err e) w v = record {
-  bytes = subst (AppendsFront a c) (sym (regroup pending first w.bytes.sent kept second w.bytes.whole)) (AppendsFront-after a b c w.bytes.sent (kept ++ second) w.bytes.appended v.bytes);
+  bytes = subst (AppendsPrefix a c) (sym (regroup pending first w.bytes.sent kept second w.bytes.whole)) (AppendsPrefix-after a b c w.bytes.sent (kept ++ second) w.bytes.appended v.bytes);
   later = omega (arith, w.later, v.later);
   failed = grind (arith, w.later, v.failed);
 }
@@ -87,7 +87,7 @@ pub Puts-stop : {S T E D : Type 0} (a b : Option (List ℕ)) (m n : ℕ) (pendin
     → Puts {T = S} {E = D} a b m n pending first kept (Err e) → Puts a b m n pending (first ++ second) left r
 Puts-stop a b m n pending first second kept left e r d same w =
     rw same record {
-      bytes = subst (AppendsFront a b) (append_assoc pending first second) (AppendsFront-more a b (pending ++ first) second w.bytes);
+      bytes = subst (AppendsPrefix a b) (append_assoc pending first second) (AppendsPrefix-more a b (pending ++ first) second w.bytes);
       later = w.later;
       failed = w.failed;
     }
@@ -105,7 +105,7 @@ Puts-ends a b c m n o none text kept x (Ok y) is w v = record {
   failed = tt;
 }
 Puts-ends a b c m n o none text kept x (Err e) is w v = record {
-  bytes = subst (AppendsFront a c) (sym w.bytes.whole ∙ ap (λ l. l ++ text) is) (AppendsFront-after a b c w.bytes.sent kept w.bytes.appended v.bytes);
+  bytes = subst (AppendsPrefix a c) (sym w.bytes.whole ∙ ap (λ l. l ++ text) is) (AppendsPrefix-after a b c w.bytes.sent kept w.bytes.appended v.bytes);
   later = omega (arith, w.later, v.later);
   failed = grind (arith, w.later, v.failed);
 }
@@ -113,7 +113,7 @@ Puts-ends a b c m n o none text kept x (Err e) is w v = record {
 -- a line broke off
 pub Puts-broke : {S T E D : Type 0} (a b : Option (List ℕ)) (m n : ℕ) (none text kept : List ℕ) (e : D) (r : Result T E) (d : E) → r ≡ Err d
     → none ≡ [] → Puts {T = S} {E = D} a b m n none text kept (Err e) → Writes a b m n text r
-Puts-broke a b m n none text kept e r d same is w = rw same record { bytes = subst (λ l. AppendsFront a b (l ++ text)) is w.bytes; later = w.later; failed = w.failed }
+Puts-broke a b m n none text kept e r d same is w = rw same record { bytes = subst (λ l. AppendsPrefix a b (l ++ text)) is w.bytes; later = w.later; failed = w.failed }
 
 -- a piece did not go in, where the whole text has more behind it
 pub Puts-cut : {S T E D : Type 0} (a b : Option (List ℕ)) (m n : ℕ) (pending text rest whole kept left : List ℕ) (e : D) (r : Result T E) (d : E) → r ≡ Err d → whole ≡ text ++ rest

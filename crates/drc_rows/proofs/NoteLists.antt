@@ -7,8 +7,8 @@ use Rattle.std.proofs.lemmas.Option.{slice_get-map}
 use Rattle.cond_lang.specs.Rules.{plain_rule}
 use Rattle.rule_text.specs.declared.notes.RuleNote.{RuleNote}
 use Rattle.rule_text.specs.declared.rules.Rules.{Rules}
-use Rattle.rule_text.specs.Views.{plain_note, plain_rules}
-use Rattle.drc_rows.specs.Notes.{name_in, rule_name, constraint_line, constraint_lines}
+use Rattle.rule_text.specs.RuleValues.{plain_note, plain_rules}
+use Rattle.drc_rows.specs.NoteLines.{name_in, rule_name, constraint_line, constraint_lines}
 
 -- the line of a note of a rule file
 abbrev pub line_of : Rules → RuleNote → List ℕ

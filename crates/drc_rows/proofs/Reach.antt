@@ -2,7 +2,7 @@
 use Rattle.std.proofs.Common.{◌≡◌, ◌≤◌, ℤ, unsigned_abs, sym, subst, arith}
 use Rattle.std.proofs.lemmas.Int.{ints}
 use Rattle.int_algebra.proofs.Scalars.{passed, passed_is}
-use Rattle.ratsnest.specs.Reach.{IsInReach}
+use Rattle.ratsnest.specs.CoordinateRange.{IsInReach}
 
 small : (z : ℤ) → IsInReach z → unsigned_abs z ≤ 500000000
 small z r = omega (arith, ints, r.from, r.to)

@@ -4,11 +4,11 @@ use Rattle.std.proofs.lemmas.Int.{ints}
 use Rattle.std.specs.Int.Signed.{le_z}
 use Rattle.std.specs.Prelude.{unsigned_abs}
 use Rattle.int_algebra.proofs.Scalars.{passed}
-use Rattle.exact_dec.specs.Written.{mm_text}
+use Rattle.exact_dec.specs.MillimetreText.{mm_text}
 use Rattle.plain_types.specs.Lengths.{IsLength}
 use Rattle.board_items.specs.declared.item.Item.{Item}
 use Rattle.board_items.specs.Boards.{PlainBoard, is_near, is_on_board, is_admitted, name_of, has_layers_of}
-use Rattle.kind_subjects.specs.Lengths.{IsNearZero}
+use Rattle.kind_subjects.specs.LimitedLengths.{IsNearZero}
 
 -- a length, as it is passed to a call
 pub length_far : {v : ℤ} → IsLength v → unsigned_abs (passed v) ≤ 1000000000000

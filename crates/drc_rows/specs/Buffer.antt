@@ -2,18 +2,18 @@
 use Rattle.std.specs.Prelude.{◌≡◌, ◌≤◌, ◌<◌, ◌==◌, ℕ, List, [], ◌∷◌, ◌++◌, get_or, Option, Result, MatchResult, OnErr, if◌then◌else◌, codes}
 use Rattle.std.specs.List.{flat_map}
 use Rattle.std.specs.Io.KnownBytes.{Appends}
-use Rattle.drc_io.specs.Causes.{Rose}
-use Rattle.drc_io.specs.Sinks.{AppendsFront}
+use Rattle.drc_io.specs.FaultCounts.{Rose}
+use Rattle.drc_io.specs.Sinks.{AppendsPrefix}
 
--- of the text a front part was appended to the sink, and the rest is kept
+-- of the text a prefix was appended to the sink, and the rest is kept
 pub record Splits (old new : Option (List ℕ)) (text kept : List ℕ) : Type 0 where
   pub sent : List ℕ
   pub whole : text ≡ sent ++ kept
   pub appended : Appends old new sent
 
--- a piece comes behind what is pending: some of both goes out and the rest is kept, or a fault came in between and a front part went out
+-- a piece comes behind what is pending: some of both goes out and the rest is kept, or a fault came in between and a prefix went out
 pub record Puts {T E : Type 0} (old new : Option (List ℕ)) (before now : ℕ) (pending piece kept : List ℕ) (result : Result T E) : Type 0 where
-  pub bytes : MatchResult result (λ _. Splits old new (pending ++ piece) kept) (λ _. AppendsFront old new (pending ++ piece))
+  pub bytes : MatchResult result (λ _. Splits old new (pending ++ piece) kept) (λ _. AppendsPrefix old new (pending ++ piece))
   pub later : before ≤ now
   pub failed : OnErr result (Rose before now)
 

@@ -1,5 +1,5 @@
 pub mod Buffer
 pub mod NetBlock
-pub mod Notes
+pub mod NoteLines
 pub mod Report
 pub mod ReportOf

@@ -2,10 +2,10 @@
 -- that would join them.
 use Rattle.std.specs.Prelude.{ℕ, List, [], ◌++◌, length, codes, decimal, Option, None, Some, unwrap_or}
 use Rattle.std.specs.List.{flat_map}
-use Rattle.exact_dec.specs.Written.{mm_text}
+use Rattle.exact_dec.specs.MillimetreText.{mm_text}
 use Rattle.board_items.specs.declared.item.Item.{Item}
 use Rattle.board_items.specs.Boards.{PlainBoard, item_at, name_of}
-use Rattle.net_groups.specs.Classes.{least}
+use Rattle.net_groups.specs.ConnectedClasses.{least}
 use Rattle.ratsnest.specs.declared.anchor.Anchor.{Anchor}
 use Rattle.ratsnest.specs.declared.link.Link.{Link}
 use Rattle.ratsnest.specs.NestOf.{anchor_at}

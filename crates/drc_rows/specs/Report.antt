@@ -1,7 +1,7 @@
 -- The texts of the report. Every line ends with a line feed.
 use Rattle.std.specs.Prelude.{ℕ, Bool, true, false, List, [], ◌++◌, length, codes, decimal, Option, None, Some, unwrap_or, slice_get}
 use Rattle.std.specs.List.{flat_map}
-use Rattle.exact_dec.specs.Written.{mm_text}
+use Rattle.exact_dec.specs.MillimetreText.{mm_text}
 use Rattle.board_items.specs.declared.item.What.{What}
 use Rattle.board_items.specs.declared.item.What.TheVariants.{Track, Via, Pad, Graphic, Fill, Edge, Area, Body, Note}
 use Rattle.board_items.specs.declared.item.Item.{Item}
@@ -12,7 +12,7 @@ use Rattle.cond_lang.specs.declared.kind.Family.{Family}
 use Rattle.cond_lang.specs.declared.kind.Family.TheVariants.{Meets, Keeps, Limits, Forbids}
 use Rattle.cond_lang.specs.declared.rule.Severity.{Severity}
 use Rattle.cond_lang.specs.declared.rule.Severity.TheVariants.{Error, Warning, Ignore, Exclusion}
-use Rattle.cond_lang.specs.Kinds.{family, kind_name}
+use Rattle.cond_lang.specs.CheckKinds.{family, kind_name}
 use Rattle.cond_lang.specs.Rules.{PlainRule}
 use Rattle.rule_pick.specs.declared.kinds.Source.{Source}
 use Rattle.rule_pick.specs.declared.kinds.Source.TheVariants.{Default, Local, Rule}
@@ -21,7 +21,7 @@ use Rattle.kind_subjects.specs.declared.layer.RowLayer.TheVariants.{Copper, Fron
 use Rattle.pair_check.specs.PlainRow.{PlainRow}
 use Rattle.rule_text.specs.RulesOf.{PlainRules}
 use Rattle.drc_rows.specs.Buffer.{named}
-use Rattle.drc_rows.specs.Notes.{name_in, note_lines, note_count}
+use Rattle.drc_rows.specs.NoteLines.{name_in, note_lines, note_count}
 
 -- what an item is called: by its own name, a rule area by its title, a footprint by its reference, and a pad by its number
 -- and the reference of its footprint. No row names a note
@@ -33,7 +33,7 @@ title_of name Graphic = named (codes "graphic") name
 title_of name Fill = named (codes "zone") name
 title_of name (Edge lines) = named (codes "edge") name
 title_of name (Area title bans shape) = named (codes "area") title
-title_of name (Body reference front back on_back) = named (codes "footprint") reference
+title_of name (Body reference prefix back on_back) = named (codes "footprint") reference
 title_of name (Note about layer) = named (codes "note") name
 
 -- an item, and where it is in millimetres

@@ -5,7 +5,7 @@ use Rattle.board_items.specs.Boards.{PlainBoard}
 use Rattle.rule_text.specs.RulesOf.{PlainRules}
 use Rattle.pair_check.specs.PlainRow.{PlainRow}
 use Rattle.net_groups.specs.NetParts.{PlainNetPart, is_open}
-use Rattle.drc_rows.specs.Notes.{note_count}
+use Rattle.drc_rows.specs.NoteLines.{note_count}
 use Rattle.drc_rows.specs.Report.{number_line, rows_text, notes_text}
 use Rattle.drc_rows.specs.NetBlock.{net_block}
 

@@ -2,7 +2,7 @@
 //! length asks for.
 
 ghost use Rattle.std.specs.Prelude.{◌≡◌, ◌≤◌, ◌+◌, ◌++◌, ℕ, List, [], length, take, unsigned_abs, IfOk};
-ghost use Rattle.exact_dec.specs.Written.{mm_text};
+ghost use Rattle.exact_dec.specs.MillimetreText.{mm_text};
 ghost use Rattle.drc_io.specs.Sinks.{Wrote};
 ghost use Rattle.drc_rows.specs.Buffer.{Buffered};
 
@@ -57,10 +57,10 @@ impl ReportBuffer {
 
     /// Makes room for so many bytes: where there is none, what is pending goes out.
     #[inline(always)]
-    pub(crate) fn make_room<W: Sink>(&mut self, out: &mut W, count: usize) -> Result<(), Failed>
+    pub(crate) fn reserve_bytes<W: Sink>(&mut self, out: &mut W, count: usize) -> Result<(), Failed>
         requires { count ≤ 8192 }
         ensures puts { Buffered W.written W.faults out.old out.new self.old [] self.new result }
-        ensures room { IfOk result (λ _. length self.new + count ≤ 8192) }
+        ensures capacity { IfOk result (λ _. length self.new + count ≤ 8192) }
     {
         if count > ROOM - self.len {
             self.flush(out)?;
@@ -80,7 +80,7 @@ impl ReportBuffer {
     /// Puts a length in millimetres at the end, where there is room for 16 bytes.
     pub(crate) fn append_length(&mut self, nm: Nm)
         requires far { unsigned_abs nm ≤ 1000000000000 }
-        requires room { length self.old + 16 ≤ 8192 }
+        requires capacity { length self.old + 16 ≤ 8192 }
         ensures text { self.new ≡ self.old ++ mm_text nm }
         ensures len { length self.new ≤ length self.old + 16 }
     {
@@ -97,7 +97,7 @@ impl ReportBuffer {
     #[inline(never)]
     fn append_long(&mut self, nm: Nm)
         requires far { unsigned_abs nm ≤ 1000000000000 }
-        requires room { length self.old + 16 ≤ 8192 }
+        requires capacity { length self.old + 16 ≤ 8192 }
         ensures text { self.new ≡ self.old ++ mm_text nm }
         ensures len { length self.new ≤ length self.old + 16 }
     {
@@ -105,7 +105,7 @@ impl ReportBuffer {
     }
 
     /// Puts a piece at the end. Where there is no room, what came before it goes out first. `Failed` comes only where
-    /// the sink's count of faults rose, and then a front part of what the buffer held and of the piece was written.
+    /// the sink's count of faults rose, and then a prefix of what the buffer held and of the piece was written.
     #[inline(always)]
     pub fn push<W: Sink>(&mut self, out: &mut W, piece: &[u8]) -> Result<(), Failed>
         ensures { Buffered W.written W.faults out.old out.new self.old piece.now self.new result }
@@ -131,8 +131,7 @@ impl ReportBuffer {
         Ok(())
     }
 
-    /// Lets all that is left go out. `Failed` comes only where the sink's count of faults rose, and then a front
-    /// part of it was written.
+    /// Lets all that is left go out. `Failed` comes only where the sink's count of faults rose, and then a prefix of it was written.
     pub fn end<W: Sink>(self, out: &mut W) -> Result<(), Failed>
         ensures { Wrote W.written W.faults out.old out.new self result }
     {

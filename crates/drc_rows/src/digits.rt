@@ -1,7 +1,7 @@
 //! Digits that are written right where they stand.
 
 ghost use Rattle.std.specs.Prelude.{◌≡◌, ◌<◌, ◌≤◌, ◌+◌, ◌/◌, ◌%◌, ◌++◌, [], ◌∷◌, length, take, decimal, unsigned_abs};
-ghost use Rattle.exact_dec.specs.Written.{minus_sign, six_digits, mm_text};
+ghost use Rattle.exact_dec.specs.MillimetreText.{minus_sign, six_digits, mm_text};
 
 use exact_dec::Nm;
 
@@ -35,7 +35,7 @@ fn pair(n: u32) -> [u8; 2]
 pub(crate) fn place(bytes: &mut [u8], at: usize, piece: &[u8]) -> usize
     requires { at + length piece.now ≤ length bytes.old }
     ensures end { result ≡ at + length piece.now }
-    ensures front { take result bytes.new ≡ take at bytes.old ++ piece.now }
+    ensures prefix { take result bytes.new ≡ take at bytes.old ++ piece.now }
 {
     let end = at + piece.len();
     bytes[at..end].copy_from_slice(piece);
@@ -45,9 +45,9 @@ pub(crate) fn place(bytes: &mut [u8], at: usize, piece: &[u8]) -> usize
 /// Writes a length of less than 1000 mm either way at a place, and gives the place behind it.
 pub(crate) fn place_short(bytes: &mut [u8], at: usize, nm: Nm) -> usize
     requires short { unsigned_abs nm < 1000000000 }
-    requires room { at + 11 ≤ length bytes.old }
+    requires capacity { at + 11 ≤ length bytes.old }
     ensures end { result ≤ at + 11 }
-    ensures front { take result bytes.new ≡ take at bytes.old ++ mm_text nm }
+    ensures prefix { take result bytes.new ≡ take at bytes.old ++ mm_text nm }
 {
     let nanometres = nm.unsigned_abs() as u32;
     let at = place_sign(bytes, at, nm);
@@ -60,7 +60,7 @@ pub(crate) fn place_short(bytes: &mut [u8], at: usize, nm: Nm) -> usize
 fn place_sign(bytes: &mut [u8], at: usize, nm: Nm) -> usize
     requires { at + 1 ≤ length bytes.old }
     ensures end { result ≤ at + 1 }
-    ensures front { take result bytes.new ≡ take at bytes.old ++ minus_sign nm }
+    ensures prefix { take result bytes.new ≡ take at bytes.old ++ minus_sign nm }
 {
     if nm < 0 { place(bytes, at, b"-") } else { at }
 }
@@ -69,9 +69,9 @@ fn place_sign(bytes: &mut [u8], at: usize, nm: Nm) -> usize
 #[inline(always)]
 fn place_whole(bytes: &mut [u8], at: usize, n: u32) -> usize
     requires small { n < 1000 }
-    requires room { at + 3 ≤ length bytes.old }
+    requires capacity { at + 3 ≤ length bytes.old }
     ensures end { result ≤ at + 3 }
-    ensures front { take result bytes.new ≡ take at bytes.old ++ decimal n }
+    ensures prefix { take result bytes.new ≡ take at bytes.old ++ decimal n }
 {
     if n < 10 {
         return place(bytes, at, &[b'0' + n as u8]);
@@ -87,9 +87,9 @@ fn place_whole(bytes: &mut [u8], at: usize, n: u32) -> usize
 #[inline(always)]
 fn place_fraction(bytes: &mut [u8], at: usize, n: u32) -> usize
     requires small { n < 1000000 }
-    requires room { at + 7 ≤ length bytes.old }
+    requires capacity { at + 7 ≤ length bytes.old }
     ensures end { result ≡ at + 7 }
-    ensures front { take result bytes.new ≡ take at bytes.old ++ (46 ∷ six_digits n) }
+    ensures prefix { take result bytes.new ≡ take at bytes.old ++ (46 ∷ six_digits n) }
 {
     let four = n % 10_000;
     let [a, b] = pair(n / 10_000);

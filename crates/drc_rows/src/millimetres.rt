@@ -1,7 +1,7 @@
 //! A length as it is written.
 
 ghost use Rattle.std.specs.Prelude.{◌≡◌, ◌≤◌, ℕ, List, take, unsigned_abs};
-ghost use Rattle.exact_dec.specs.Written.{mm_text};
+ghost use Rattle.exact_dec.specs.MillimetreText.{mm_text};
 
 use exact_dec::{Nm, write_mm};
 use std::marker::Model;

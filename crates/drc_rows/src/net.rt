@@ -4,7 +4,7 @@ ghost use Rattle.std.specs.Prelude.{◌≡◌, ◌<◌, ◌++◌, All, IsSome, l
 ghost use Rattle.std.specs.List.{flat_map};
 ghost use Rattle.board_items.specs.Boards.{name_of};
 ghost use Rattle.drc_io.specs.Sinks.{Wrote};
-ghost use Rattle.net_groups.specs.Groups.{IsOnBoard};
+ghost use Rattle.net_groups.specs.NetGroups.{HasItem};
 ghost use Rattle.ratsnest.specs.NestOf.{anchor_at, HasPlaces};
 ghost use Rattle.drc_rows.specs.Buffer.{Buffered};
 ghost use Rattle.drc_rows.specs.NetBlock.{net_line, group_line, item_text_at, anchor_text, ends_text, link_line, net_block};
@@ -64,7 +64,7 @@ fn push_group<W: Sink>(
     members: &[u32],
 ) -> Result<(), Failed>
     requires filled { 0 < length members.now }
-    requires placed { All (IsOnBoard board.now) members.now }
+    requires placed { All (HasItem board.now) members.now }
     ensures { Buffered W.written W.faults out.old out.new buffer.old
         (group_line board.now members.now) buffer.new result }
 {
@@ -81,7 +81,7 @@ fn push_groups<W: Sink>(
     groups: &[Group],
 ) -> Result<(), Failed>
     requires filled { All (λ group. 0 < length group) groups.now }
-    requires placed { All (All (IsOnBoard board.now)) groups.now }
+    requires placed { All (All (HasItem board.now)) groups.now }
     ensures { Buffered W.written W.faults out.old out.new buffer.old
         (flat_map (group_line board.now) groups.now) buffer.new result }
 {
@@ -114,7 +114,7 @@ fn push_anchor<W: Sink>(
     board: &Board,
     anchor: Anchor,
 ) -> Result<(), Failed>
-    requires { IsOnBoard board.now anchor.id }
+    requires { HasItem board.now anchor.id }
     ensures { Buffered W.written W.faults out.old out.new buffer.old
         (anchor_text board.now anchor) buffer.new result }
 {
@@ -129,8 +129,8 @@ fn push_ends<W: Sink>(
     first: Anchor,
     second: Anchor,
 ) -> Result<(), Failed>
-    requires first { IsOnBoard board.now first.id }
-    requires second { IsOnBoard board.now second.id }
+    requires first { HasItem board.now first.id }
+    requires second { HasItem board.now second.id }
     ensures { Buffered W.written W.faults out.old out.new buffer.old
         (ends_text board.now first second) buffer.new result }
 {
@@ -154,7 +154,7 @@ fn push_link<W: Sink>(
     anchors: &[Anchor],
     link: Link,
 ) -> Result<(), Failed>
-    requires anchors { All (λ anchor. IsOnBoard board.now anchor.id) anchors.now }
+    requires anchors { All (λ anchor. HasItem board.now anchor.id) anchors.now }
     requires places { HasPlaces anchors.now link }
     ensures { Buffered W.written W.faults out.old out.new buffer.old
         (link_line board.now anchors.now link) buffer.new result }
@@ -174,7 +174,7 @@ fn push_links<W: Sink>(
     anchors: &[Anchor],
     links: &[Link],
 ) -> Result<(), Failed>
-    requires anchors { All (λ anchor. IsOnBoard board.now anchor.id) anchors.now }
+    requires anchors { All (λ anchor. HasItem board.now anchor.id) anchors.now }
     requires places { All (HasPlaces anchors.now) links.now }
     ensures { Buffered W.written W.faults out.old out.new buffer.old
         (flat_map (link_line board.now anchors.now) links.now) buffer.new result }
@@ -190,7 +190,7 @@ fn push_links<W: Sink>(
 /// anchor.
 ///
 /// The net is declared; no group is empty, and all members and the items of all anchors are on the board; the links
-/// join anchors of the list. `Failed` comes only where the sink's count of faults rose, and then a front part of
+/// join anchors of the list. `Failed` comes only where the sink's count of faults rose, and then a prefix of
 /// what the buffer held and of these lines was written. It takes no memory.
 #[tactic(auto, unfolding(crate::specs::NetBlock::net_block))]
 pub fn push_net<W: Sink>(
@@ -204,8 +204,8 @@ pub fn push_net<W: Sink>(
 ) -> Result<(), Failed>
     requires declared { IsSome (name_of board.now net) }
     requires filled { All (λ group. 0 < length group) groups.now }
-    requires members { All (All (IsOnBoard board.now)) groups.now }
-    requires anchors { All (λ anchor. IsOnBoard board.now anchor.id) anchors.now }
+    requires members { All (All (HasItem board.now)) groups.now }
+    requires anchors { All (λ anchor. HasItem board.now anchor.id) anchors.now }
     requires places { All (HasPlaces anchors.now) nest.now.links }
     ensures { Buffered W.written W.faults out.old out.new buffer.old
         (net_block board.now net groups.now anchors.now nest.now.links) buffer.new result }
@@ -218,7 +218,7 @@ pub fn push_net<W: Sink>(
 
 /// Writes the lines of a net, under the conditions of `push_net`: its name and how many groups it has, a line for
 /// each group, and a line for each link of its nest. `Failed` comes only where the sink's count of faults rose, and
-/// then a front part of the lines was written. It takes no memory.
+/// then a prefix of the lines was written. It takes no memory.
 pub fn write_net<W: Sink>(
     board: &Board,
     net: u32,
@@ -229,8 +229,8 @@ pub fn write_net<W: Sink>(
 ) -> Result<(), Failed>
     requires declared { IsSome (name_of board.now net) }
     requires filled { All (λ group. 0 < length group) groups.now }
-    requires members { All (All (IsOnBoard board.now)) groups.now }
-    requires anchors { All (λ anchor. IsOnBoard board.now anchor.id) anchors.now }
+    requires members { All (All (HasItem board.now)) groups.now }
+    requires anchors { All (λ anchor. HasItem board.now anchor.id) anchors.now }
     requires places { All (HasPlaces anchors.now) nest.now.links }
     ensures { Wrote W.written W.faults out.old out.new
         (net_block board.now net groups.now anchors.now nest.now.links) result }

@@ -3,10 +3,10 @@
 ghost use Rattle.std.specs.Prelude.{◌≡◌, ◌++◌, []};
 ghost use Rattle.std.specs.Option.{option_copied};
 ghost use Rattle.drc_io.specs.Sinks.{Wrote};
-ghost use Rattle.rule_text.specs.Views.{plain_note, plain_rules};
+ghost use Rattle.rule_text.specs.RuleValues.{plain_note, plain_rules};
 ghost use Rattle.drc_rows.specs.Buffer.{Buffered, named};
-ghost use Rattle.drc_rows.specs.Notes.{about_text, told_text, note_text, note_line, reference_in, reference_of, item_lines};
-ghost use Rattle.drc_rows.specs.Notes.{rule_name, constraint_line, constraint_lines, note_lines, note_count};
+ghost use Rattle.drc_rows.specs.NoteLines.{about_text, told_text, note_text, note_line, reference_in, reference_of, item_lines};
+ghost use Rattle.drc_rows.specs.NoteLines.{rule_name, constraint_line, constraint_lines, note_lines, note_count};
 
 use crate::buffer::ReportBuffer;
 use crate::pieces::push_quoted;
@@ -142,7 +142,7 @@ fn push_note_at<W: Sink>(
 }
 
 /// Puts the lines of all notes of a board into the buffer, by id.
-#[tactic(auto, unfolding(crate::specs::Notes::item_lines))]
+#[tactic(auto, unfolding(crate::specs::NoteLines::item_lines))]
 fn push_items<W: Sink>(buffer: &mut ReportBuffer, out: &mut W, board: &Board) -> Result<(), Failed>
     ensures { Buffered W.written W.faults out.old out.new buffer.old
         (item_lines board.now) buffer.new result }
@@ -197,7 +197,7 @@ fn push_constraints<W: Sink>(
 }
 
 /// Puts the lines of all notes into the buffer: those of the board, by id, and then those of its rules, in their
-/// order. `Failed` comes only where the sink's count of faults rose, and then a front part of what the buffer held
+/// order. `Failed` comes only where the sink's count of faults rose, and then a prefix of what the buffer held
 /// and of these lines was written. It takes no memory.
 pub fn push_notes<W: Sink>(
     buffer: &mut ReportBuffer,
@@ -213,7 +213,7 @@ pub fn push_notes<W: Sink>(
 }
 
 /// Writes the lines of all notes: those of the board, by id, and then those of its rules, in their order. `Failed`
-/// comes only where the sink's count of faults rose, and then a front part of the lines was written. It takes no
+/// comes only where the sink's count of faults rose, and then a prefix of the lines was written. It takes no
 /// memory.
 pub fn write_notes<W: Sink>(board: &Board, rules: &Rules, out: &mut W) -> Result<(), Failed>
     ensures { Wrote W.written W.faults out.old out.new
@@ -225,7 +225,7 @@ pub fn write_notes<W: Sink>(board: &Board, rules: &Rules, out: &mut W) -> Result
 }
 
 /// How many notes there are: as many as `write_notes` writes lines.
-#[tactic(auto, unfolding(crate::specs::Notes::item_count))]
+#[tactic(auto, unfolding(crate::specs::NoteLines::item_count))]
 pub fn count_notes(board: &Board, rules: &Rules) -> u64
     ensures { result ≡ note_count board.now (plain_rules rules.now) }
 {

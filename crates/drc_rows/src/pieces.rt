@@ -2,7 +2,7 @@
 
 ghost use Rattle.std.specs.Prelude.{◌≡◌, ◌≤◌, ◌+◌, ◌++◌, [], ◌∷◌, true, false, length, unsigned_abs, MatchOption};
 ghost use Rattle.std.specs.List.{flat_map};
-ghost use Rattle.exact_dec.specs.Written.{mm_text};
+ghost use Rattle.exact_dec.specs.MillimetreText.{mm_text};
 ghost use Rattle.drc_rows.specs.Buffer.{Buffered, AreOwn, escaped, escaped_byte, named};
 
 use crate::buffer::ReportBuffer;
@@ -10,7 +10,7 @@ use drc_io::{Failed, Sink};
 use exact_dec::Nm;
 
 /// Puts pieces into the buffer, one after another. `Failed` comes only where the sink's count of faults rose, and
-/// then a front part of what the buffer held and of the pieces was written.
+/// then a prefix of what the buffer held and of the pieces was written.
 #[inline(always)]
 pub fn push_all<W: Sink>(
     buffer: &mut ReportBuffer,
@@ -43,7 +43,7 @@ pub(crate) fn push_quoted<W: Sink>(
     if word.len() > LONGEST || name.len() > LONGEST || !is_plain(name) {
         return push_odd(buffer, out, word, name);
     }
-    buffer.make_room(out, word.len() + name.len() + 3)?;
+    buffer.reserve_bytes(out, word.len() + name.len() + 3)?;
     append_quoted(buffer, word, name);
     Ok(())
 }
@@ -51,7 +51,7 @@ pub(crate) fn push_quoted<W: Sink>(
 /// Puts a word and a name in quotes into the buffer, where there is room and the name needs no backslash.
 #[inline(always)]
 fn append_quoted(buffer: &mut ReportBuffer, word: &[u8], name: &[u8])
-    requires room { length buffer.old + (length word.now + length name.now + 3) ≤ 8192 }
+    requires capacity { length buffer.old + (length word.now + length name.now + 3) ≤ 8192 }
     requires plain { escaped name.now ≡ name.now }
     ensures { buffer.new ≡ buffer.old ++ named word.now name.now }
 {
@@ -95,7 +95,7 @@ pub(crate) fn push_lengths<W: Sink>(
     ensures { Buffered W.written W.faults out.old out.new buffer.old
         (before.now ++ mm_text first ++ between.now ++ mm_text second) buffer.new result }
 {
-    buffer.make_room(out, before.len() + between.len() + 32)?;
+    buffer.reserve_bytes(out, before.len() + between.len() + 32)?;
     append_lengths(buffer, before, first, between, second);
     Ok(())
 }
@@ -105,7 +105,7 @@ pub(crate) fn push_lengths<W: Sink>(
 fn append_lengths(buffer: &mut ReportBuffer, before: &[u8], first: Nm, between: &[u8], second: Nm)
     requires first { unsigned_abs first ≤ 1000000000000 }
     requires second { unsigned_abs second ≤ 1000000000000 }
-    requires room { length buffer.old + (length before.now + length between.now + 32) ≤ 8192 }
+    requires capacity { length buffer.old + (length before.now + length between.now + 32) ≤ 8192 }
     ensures { buffer.new
         ≡ buffer.old ++ (before.now ++ mm_text first ++ between.now ++ mm_text second) }
 {

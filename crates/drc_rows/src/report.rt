@@ -208,8 +208,8 @@ fn push_row<W: Sink>(
 }
 
 /// Puts the lines of rows into the buffer, in their order. Their items are in the board of the view, and the rules
-/// that ask for them are among its rules. `Failed` comes only where the sink's count of faults rose, and then a front
-/// part of what the buffer held and of these lines was written. It takes no memory.
+/// that ask for them are among its rules. `Failed` comes only where the sink's count of faults rose, and then a prefix of what the buffer
+/// held and of these lines was written. It takes no memory.
 pub fn push_rows<W: Sink>(
     buffer: &mut ReportBuffer,
     out: &mut W,
@@ -229,7 +229,7 @@ pub fn push_rows<W: Sink>(
 }
 
 /// Writes the lines of rows, in their order. Their items are in the board of the view, and the rules that ask for
-/// them are among its rules. `Failed` comes only where the sink's count of faults rose, and then a front part of the
+/// them are among its rules. `Failed` comes only where the sink's count of faults rose, and then a prefix of the
 /// lines was written. It takes no memory.
 pub fn write_rows<W: Sink>(view: &CheckView<'_>, rows: &[Row], out: &mut W) -> Result<(), Failed>
     requires items { All (HasItems view.now.board.now) rows.now }
@@ -244,7 +244,7 @@ pub fn write_rows<W: Sink>(view: &CheckView<'_>, rows: &[Row], out: &mut W) -> R
 }
 
 /// Writes pieces one behind another, as one text. `Failed` comes only where the sink's count of faults rose, and
-/// then a front part of them was written.
+/// then a prefix of them was written.
 pub fn write_pieces<W: Sink>(pieces: &[&[u8]], out: &mut W) -> Result<(), Failed>
     ensures { Wrote W.written W.faults out.old out.new (flat_map (λ p. p.now) pieces.now) result }
 {
@@ -254,7 +254,7 @@ pub fn write_pieces<W: Sink>(pieces: &[&[u8]], out: &mut W) -> Result<(), Failed
 }
 
 /// Puts a line of a text, a number and a text into the buffer. `Failed` comes only where the sink's count of faults
-/// rose, and then a front part of what the buffer held and of the line was written.
+/// rose, and then a prefix of what the buffer held and of the line was written.
 pub fn push_line<W: Sink>(
     buffer: &mut ReportBuffer,
     out: &mut W,
@@ -274,7 +274,7 @@ pub fn push_line<W: Sink>(
 }
 
 /// Writes a line of a text, a number and a text. `Failed` comes only where the sink's count of faults rose, and then
-/// a front part of it was written.
+/// a prefix of it was written.
 pub fn write_line<W: Sink>(
     before: &[u8],
     number: u64,

@@ -6,13 +6,13 @@ use Rattle.run_words.specs.Calls.{Reading, PlainCall, check}
 use Rattle.run_texts.specs.declared.texts.Stop.{Stop}
 use Rattle.run_texts.specs.declared.texts.Stop.TheVariants.{Unread}
 use Rattle.run_texts.specs.declared.texts.Which.TheVariants.{Script}
-use Rattle.run_texts.specs.Texts.{texts_of, Value, a_script, AreAccepted, ReadFails}
-use Rattle.run_texts.specs.Refusing.{StopsTexts, Gives, AreOpened}
+use Rattle.run_texts.specs.NamedTexts.{texts_of, Value, a_script, AreAccepted, ReadFails}
+use Rattle.run_texts.specs.RunFindings.{StopsTexts, Gives, AreOpened}
 use Rattle.run_texts.proofs.Accepting.{values_of, all_accepted, unread_has_fault}
 use Rattle.drc_run.specs.declared.status.Status.{Status}
 use Rattle.drc_run.specs.Output.{Output, commands_among, is_short, IsTold, IsToldSoFar, IsOutputFor, given, IsBegunFor, whole, begun_by}
-use Rattle.drc_run.specs.Refusing.{IsLineOf}
-use Rattle.drc_run.specs.Endings.{Ends, EndsFor, IsTextOfOne}
+use Rattle.drc_run.specs.RefusalLines.{IsLineOf}
+use Rattle.drc_run.specs.RunEndings.{Ends, EndsFor, IsTextOfOne}
 use Rattle.drc_run.proofs.Written.{ends_as}
 use Rattle.drc_run.proofs.Opening.{opened_by, commands_are, line_is_output}
 

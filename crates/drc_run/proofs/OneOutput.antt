@@ -4,18 +4,18 @@ use Rattle.std.proofs.lemmas.Option.{slice_get_within}
 use Rattle.drc_io.specs.Files.{file_of}
 use Rattle.board_errors.specs.declared.errors.BoardError.{BoardError}
 use Rattle.board_items.specs.Boards.{PlainBoard}
-use Rattle.board_errors.specs.Reasons.{board_reason}
+use Rattle.board_errors.specs.BoardReasons.{board_reason}
 use Rattle.pcb_read.specs.BoardText.{BoardSays}
-use Rattle.net_class.specs.Classes.{PlainClasses}
+use Rattle.net_class.specs.NetClasses.{PlainClasses}
 use Rattle.net_class.specs.ProjectText.{ProjectSays}
-use Rattle.net_class.specs.Reasons.{class_reason}
+use Rattle.net_class.specs.ProjectReasons.{class_reason}
 use Rattle.rule_text.specs.declared.error.RuleError.{RuleError}
-use Rattle.rule_text.specs.Reasons.{rules_reason}
+use Rattle.rule_text.specs.RuleReasons.{rules_reason}
 use Rattle.rule_text.specs.RulesOf.{PlainRules}
 use Rattle.rule_text.specs.RuleText.{RulesSays}
 use Rattle.edit_script.specs.declared.error.ScriptError.{ScriptError}
 use Rattle.edit_script.specs.Commands.{PlainCommand, PlainStep, place_of}
-use Rattle.edit_script.specs.Reasons.{script_reason}
+use Rattle.edit_script.specs.ScriptReasons.{script_reason}
 use Rattle.edit_script.specs.ScriptText.{ScriptSays, SaysSteps}
 use Rattle.drc_state.specs.States.{State}
 use Rattle.run_words.specs.Calls.{PlainSource, file, made, PlainCall, nothing, check, undo, try, steal, write}
@@ -23,7 +23,7 @@ use Rattle.run_texts.specs.declared.texts.Which.{Which}
 use Rattle.run_texts.specs.declared.texts.Which.TheVariants.{Board, Project, Rules, Script, Steps, Trials, Text}
 use Rattle.plain_types.specs.Limits.{most_trials}
 use Rattle.plain_types.specs.Reasons.{PlainReason}
-use Rattle.run_texts.specs.Texts.{Named, texts_of, Value, a_board, a_project, a_rules, a_script, some_steps, Said, accepted, refused, reason_text, IsRefusalText, too_many, RefusesScript, RefusesTrials, ReaderSays, TextSays, longer, read, AreBytesOf, SourceSays, AreAccepted, IsReached, a_text}
+use Rattle.run_texts.specs.NamedTexts.{Named, texts_of, Value, a_board, a_project, a_rules, a_script, some_steps, Said, accepted, refused, reason_text, IsRefusalText, too_many, RefusesScript, RefusesTrials, ReaderSays, TextSays, longer, read, AreBytesOf, SourceSays, AreAccepted, IsReached, a_text}
 use Rattle.drc_run.specs.Output.{Output, commands_among, steps_among, IsOpenedBy, is_short, IsTold, IsToldSoFar, AreStepsTold, AreStepsToldSoFar, AreTrialsTold, AreFirstTrials, IsTextOf, IsBegunBy, IsOutputFor, unclear, stopped, given, IsBegunFor, whole, begun_by, usage, refusal, AreRowsTold, IsBoardWritten}
 use Rattle.drc_run.proofs.OneProject.{one_project}
 
@@ -74,11 +74,11 @@ module _ (one_reading : (text : List ℕ) (a b : Result PlainBoard BoardError) �
     (one_script : (text : List ℕ) (a b : Result (List PlainCommand) ScriptError) → ScriptSays text a → ScriptSays text b → a ≡ b)
     (one_steps : (text : List ℕ) (a b : Result (List PlainStep) ScriptError) → SaysSteps text a → SaysSteps text b → a ≡ b)
     (one_told : (short : Bool) (s : State) (commands : List PlainCommand) (a b : Output) → IsTold short s commands a → IsTold short s commands b → a ≡ b)
-    (front_of_told : (short : Bool) (s : State) (commands : List PlainCommand) (text : List ℕ) (out : Output) → IsToldSoFar short s commands text → IsTold short s commands out → (rest : List ℕ) × (out.text ≡ text ++ rest))
+    (prefix_of_told : (short : Bool) (s : State) (commands : List PlainCommand) (text : List ℕ) (out : Output) → IsToldSoFar short s commands text → IsTold short s commands out → (rest : List ℕ) × (out.text ≡ text ++ rest))
     (one_stepped : (s : State) (steps : List PlainStep) (a b : Output) → AreStepsTold s steps a → AreStepsTold s steps b → a ≡ b)
-    (front_of_stepped : (s : State) (steps : List PlainStep) (text : List ℕ) (out : Output) → AreStepsToldSoFar s steps text → AreStepsTold s steps out → (rest : List ℕ) × (out.text ≡ text ++ rest))
+    (prefix_of_stepped : (s : State) (steps : List PlainStep) (text : List ℕ) (out : Output) → AreStepsToldSoFar s steps text → AreStepsTold s steps out → (rest : List ℕ) × (out.text ≡ text ++ rest))
     (one_tried : (s : State) (commands : List PlainCommand) (a b : Output) → AreTrialsTold s commands a → AreTrialsTold s commands b → a ≡ b)
-    (front_of_tried : (s : State) (commands : List PlainCommand) (text : List ℕ) (out : Output) → AreFirstTrials s commands text → AreTrialsTold s commands out → (rest : List ℕ) × (out.text ≡ text ++ rest))
+    (prefix_of_tried : (s : State) (commands : List PlainCommand) (text : List ℕ) (out : Output) → AreFirstTrials s commands text → AreTrialsTold s commands out → (rest : List ℕ) × (out.text ≡ text ++ rest))
     (one_stolen : (s : State) (a b : Output) → AreRowsTold s a → AreRowsTold s b → a ≡ b)
     (one_written : (text : List ℕ) (commands : List PlainCommand) (a b : Output) → IsBoardWritten text commands a → IsBoardWritten text commands b → a ≡ b) where
   board_once : (bytes : List ℕ) (s t : Said) → ReaderSays Board bytes s → ReaderSays Board bytes t → s ≡ t
@@ -365,17 +365,17 @@ module _ (one_reading : (text : List ℕ) (a b : Result PlainBoard BoardError) �
     one_text (write board script) values a b p q =
         one_written q.0 (commands_among values) a b (subst (λ (text : List ℕ). IsBoardWritten text (commands_among values) a) (texts p.0 q.0 (sym p.1 ∙ q.1)) p.2) q.2
 
-    -- what is written after some of the commands is a front part of what all give
-    front_text : (call : PlainCall) (values : List Value) (text : List ℕ) (out : Output) → IsBegunBy call values text → IsTextOf call values out → (rest : List ℕ) × (out.text ≡ text ++ rest)
-    front_text (nothing line) values text out p q = absurd p
-    front_text (check r) values text out p q =
-        front_of_told (is_short r.board) q.0 (commands_among values) text out (subst (λ (s : State). IsToldSoFar (is_short r.board) s (commands_among values) text) (one_opened values p.0 q.0 p.1 q.1) p.2) q.2
-    front_text (undo board script) values text out p q =
-        front_of_stepped q.0 (steps_among values) text out (subst (λ (s : State). AreStepsToldSoFar s (steps_among values) text) (one_opened values p.0 q.0 p.1 q.1) p.2) q.2
-    front_text (steal board workers) values text out p q = absurd p
-    front_text (try board script workers) values text out p q =
-        front_of_tried q.0 (commands_among values) text out (subst (λ (s : State). AreFirstTrials s (commands_among values) text) (one_opened values p.0 q.0 p.1 q.1) p.2) q.2
-    front_text (write board script) values text out p q = absurd p
+    -- what is written after some of the commands is a prefix of what all give
+    prefix_text : (call : PlainCall) (values : List Value) (text : List ℕ) (out : Output) → IsBegunBy call values text → IsTextOf call values out → (rest : List ℕ) × (out.text ≡ text ++ rest)
+    prefix_text (nothing line) values text out p q = absurd p
+    prefix_text (check r) values text out p q =
+        prefix_of_told (is_short r.board) q.0 (commands_among values) text out (subst (λ (s : State). IsToldSoFar (is_short r.board) s (commands_among values) text) (one_opened values p.0 q.0 p.1 q.1) p.2) q.2
+    prefix_text (undo board script) values text out p q =
+        prefix_of_stepped q.0 (steps_among values) text out (subst (λ (s : State). AreStepsToldSoFar s (steps_among values) text) (one_opened values p.0 q.0 p.1 q.1) p.2) q.2
+    prefix_text (steal board workers) values text out p q = absurd p
+    prefix_text (try board script workers) values text out p q =
+        prefix_of_tried q.0 (commands_among values) text out (subst (λ (s : State). AreFirstTrials s (commands_among values) text) (one_opened values p.0 q.0 p.1 q.1) p.2) q.2
+    prefix_text (write board script) values text out p q = absurd p
 
     same_lines : (a b : List ℕ) → nothing a ≡ nothing b → a ≡ b
     same_lines a b e = cc
@@ -394,18 +394,18 @@ module _ (one_reading : (text : List ℕ) (a b : Result PlainBoard BoardError) �
     one_output_of call a b (given vs p t) (stopped u how s g d) = absurd (not_stopped call u how vs s g p)
     one_output_of call a b (given vs p t) (given ws q u) = one_text call ws a b (subst (λ (xs : List Value). IsTextOf call xs a) (one_values (texts_of call) vs ws p q) t) u
 
-    begun_front : (call : PlainCall) (values : List Value) (text : List ℕ) (out : Output) → AreAccepted (Some files) (texts_of call) values → IsBegunBy call values text → IsOutputFor call (Some files) out
+    begun_prefix : (call : PlainCall) (values : List Value) (text : List ℕ) (out : Output) → AreAccepted (Some files) (texts_of call) values → IsBegunBy call values text → IsOutputFor call (Some files) out
         → (rest : List ℕ) × (out.text ≡ text ++ rest)
-    begun_front call values text out p b (unclear m d h) = absurd (subst (λ (x : PlainCall). IsBegunBy x values text) d b)
-    begun_front call values text out p b (stopped u how s g d) = absurd (not_stopped call u how values s g p)
-    begun_front call values text out p b (given ws q u) = front_text call ws text out (subst (λ (xs : List Value). IsBegunBy call xs text) (one_values (texts_of call) values ws p q) b) u
+    begun_prefix call values text out p b (unclear m d h) = absurd (subst (λ (x : PlainCall). IsBegunBy x values text) d b)
+    begun_prefix call values text out p b (stopped u how s g d) = absurd (not_stopped call u how values s g p)
+    begun_prefix call values text out p b (given ws q u) = prefix_text call ws text out (subst (λ (xs : List Value). IsBegunBy call xs text) (one_values (texts_of call) values ws p q) b) u
 
-    pub front_of : (call : PlainCall) (text : List ℕ) (out : Output) → IsBegunFor call (Some files) text → IsOutputFor call (Some files) out → (rest : List ℕ) × (out.text ≡ text ++ rest)
-    front_of call text out (whole other is e) k = ([], ap (λ (o : Output). o.text) (one_output_of call out other k is) ∙ (sym e ∙ sym (append-nil text)))
-    front_of call text out (begun_by values p b) k = begun_front call values text out p b k
+    pub prefix_of : (call : PlainCall) (text : List ℕ) (out : Output) → IsBegunFor call (Some files) text → IsOutputFor call (Some files) out → (rest : List ℕ) × (out.text ≡ text ++ rest)
+    prefix_of call text out (whole other is e) k = ([], ap (λ (o : Output). o.text) (one_output_of call out other k is) ∙ (sym e ∙ sym (append-nil text)))
+    prefix_of call text out (begun_by values p b) k = begun_prefix call values text out p b k
 
   pub one_output : (call : PlainCall) (files : List (List ℕ × List ℕ)) (a b : Output) → IsOutputFor call (Some files) a → IsOutputFor call (Some files) b → a ≡ b
   one_output call files a b p q = one_output_of files call a b p q
 
-  pub begun_is_front : (call : PlainCall) (files : List (List ℕ × List ℕ)) (text : List ℕ) (out : Output) → IsBegunFor call (Some files) text → IsOutputFor call (Some files) out → (rest : List ℕ) × (out.text ≡ text ++ rest)
-  begun_is_front call files text out b k = front_of files call text out b k
+  pub begun_is_prefix : (call : PlainCall) (files : List (List ℕ × List ℕ)) (text : List ℕ) (out : Output) → IsBegunFor call (Some files) text → IsOutputFor call (Some files) out → (rest : List ℕ) × (out.text ≡ text ++ rest)
+  begun_is_prefix call files text out b k = prefix_of files call text out b k

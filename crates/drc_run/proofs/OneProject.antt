@@ -1,13 +1,13 @@
 -- The text of a project says one thing.
 use Rattle.std.proofs.Common.{◌≡◌, ◌⊎◌, ℕ, List, Result, Err, inl, inr, sym, ap, ◌∙◌}
-use Rattle.json_exact.specs.Refusals.{depth_limit}
+use Rattle.json_exact.specs.JsonRefusals.{depth_limit}
 use Rattle.json_exact.specs.declared.error.JsonError.{JsonError}
 use Rattle.json_exact.specs.declared.error.JsonError.TheVariants.{OutOfMemory as NoMemoryForText}
 use Rattle.json_exact.proofs.OneValue.{one_value}
 use Rattle.json_exact.proofs.Unique.{only_memory, one_refusal}
 use Rattle.net_class.specs.declared.error.ProjectError.{ProjectError}
 use Rattle.net_class.specs.declared.error.ProjectError.TheVariants.{Json}
-use Rattle.net_class.specs.Classes.{PlainClasses}
+use Rattle.net_class.specs.NetClasses.{PlainClasses}
 use Rattle.net_class.specs.ClassesOf.{classes_of}
 use Rattle.net_class.specs.ProjectText.{ProjectSays}
 

@@ -1,4 +1,4 @@
--- What commands give that begin with one thing is one output, and what is written after some of the commands is a front part of it.
+-- What commands give that begin with one thing is one output, and what is written after some of the commands is a prefix of it.
 use Rattle.std.proofs.Common.{◌≡◌, ◌∙◌, ap, sym, subst, ℕ, Bool, List, ◌++◌}
 use Rattle.std.proofs.lemmas.List.{append_assoc}
 use Rattle.pair_check.specs.PlainRow.{PlainRow}
@@ -8,7 +8,7 @@ use Rattle.drc_rows.specs.ReportOf.{first_line}
 use Rattle.drc_state.specs.States.{State, checked_in}
 use Rattle.drc_run.specs.Reports.{IsOpening}
 use Rattle.drc_run.specs.Output.{Output, IsStatusOf, status_of, IsToldBy, IsToldSoFarBy, AreRowsTold}
-use Rattle.drc_run.proofs.TurnLists.{IsOne, one_text, front_of_all}
+use Rattle.drc_run.proofs.TurnLists.{IsOne, one_text, prefix_of_all}
 
 module _ (one_list : (c : Checked) (a b : List PlainRow) → AreRows c a → AreRows c b → a ≡ b)
     (one_opening : (short : Bool) (s : State) (xs ys : List ℕ) → IsOpening short s xs → IsOpening short s ys → xs ≡ ys)
@@ -24,10 +24,10 @@ module _ (one_list : (c : Checked) (a b : List PlainRow) → AreRows c a → Are
       let status : a.status ≡ b.status = one_status (present k.last) a.status b.status (subst (λ (s : S). IsStatusOf (present s) a.status) rest.0 h.status) k.status in
       ap (λ t. record { text = t; status = a.status }) text ∙ ap (λ s. record { text = b.text; status = s }) status
 
-  pub front_of_told : (start : S) (commands : List C) (text : List ℕ) (out : Output) → IsToldSoFarBy Turn present short start commands text → IsToldBy Turn present short start commands out → (rest : List ℕ) × (out.text ≡ text ++ rest)
-  front_of_told start commands text out h k =
+  pub prefix_of_told : (start : S) (commands : List C) (text : List ℕ) (out : Output) → IsToldSoFarBy Turn present short start commands text → IsToldBy Turn present short start commands out → (rest : List ℕ) × (out.text ≡ text ++ rest)
+  prefix_of_told start commands text out h k =
       let first = one_opening short (present start) h.first k.first h.first_is k.first_is in
-      let more = front_of_all Turn one_turn start commands k.last h.rest k.rest h.turns k.turns in (
+      let more = prefix_of_all Turn one_turn start commands k.last h.rest k.rest h.turns k.turns in (
         more.0,
         k.text_is
             ∙ (ap (λ (zs : List ℕ). zs ++ k.rest) (sym first)

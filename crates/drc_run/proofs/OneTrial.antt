@@ -6,12 +6,12 @@ use Rattle.drc_rows.specs.Report.{number_line}
 use Rattle.edit_script.specs.Commands.{PlainCommand}
 use Rattle.drc_state.specs.declared.error.EditError.{EditError}
 use Rattle.drc_state.specs.States.{State, checked_in}
-use Rattle.drc_state.specs.Steps.{Answers}
+use Rattle.drc_state.specs.CommandSteps.{Answers}
 use Rattle.what_if.specs.Trials.{IsDifference, IsSurvey}
 use Rattle.drc_run.specs.Reports.{refused_trial, why_edit}
-use Rattle.drc_run.specs.Turns.{marked_lines, IsTrialText, or_some, IsTrial, untried, tried}
+use Rattle.drc_run.specs.CommandOutputs.{marked_lines, IsTrialText, or_some, IsTrial, untried, tried}
 use Rattle.drc_run.specs.Output.{Output, IsLeastLine, status_if, AreTrialsTold, AreFirstTrials}
-use Rattle.drc_run.proofs.TurnLists.{IsOne, one_text, front_of_all}
+use Rattle.drc_run.proofs.TurnLists.{IsOne, one_text, prefix_of_all}
 
 -- the last line
 some_once : (m n : ℕ) → Some (Some m) ≡ Some (Some n) → m ≡ n
@@ -70,7 +70,7 @@ module _ (one_answer : (s : State) (command : PlainCommand) (a b : Result State 
           let status : a.status ≡ b.status = h.status ∙ (ap status_if turns.0 ∙ sym k.status) in
           ap (λ t. record { text = t; status = a.status }) text ∙ ap (λ n. record { text = b.text; status = n }) status
 
-    pub front_of_tried : (commands : List PlainCommand) (text : List ℕ) (out : Output) → AreFirstTrials s commands text → AreTrialsTold s commands out → (rest : List ℕ) × (out.text ≡ text ++ rest)
-    front_of_tried commands text out f k =
-        let more = front_of_all (IsTrial s) one_trial false commands k.comes text k.rest f k.trials in
+    pub prefix_of_tried : (commands : List PlainCommand) (text : List ℕ) (out : Output) → AreFirstTrials s commands text → AreTrialsTold s commands out → (rest : List ℕ) × (out.text ≡ text ++ rest)
+    prefix_of_tried commands text out f k =
+        let more = prefix_of_all (IsTrial s) one_trial false commands k.comes text k.rest f k.trials in
         (more.0 ++ k.last, k.text_is ∙ (ap (λ (zs : List ℕ). zs ++ k.last) more.1 ∙ append_assoc text more.0 k.last))

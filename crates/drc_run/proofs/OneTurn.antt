@@ -8,12 +8,12 @@ use Rattle.drc_rows.specs.ReportOf.{Found}
 use Rattle.edit_script.specs.Commands.{PlainCommand, PlainStep}
 use Rattle.drc_state.specs.declared.error.EditError.{EditError}
 use Rattle.drc_state.specs.States.{State, checked_in}
-use Rattle.drc_state.specs.Steps.{is_rules, Answers}
+use Rattle.drc_state.specs.CommandSteps.{is_rules, Answers}
 use Rattle.drc_state.specs.Recheck.{AreHeld, AreRechecked, IsHeldCount}
 use Rattle.undo_log.specs.declared.error.HistoryError.{HistoryError}
 use Rattle.undo_log.specs.Past.{Past, StepAnswers, does_replace}
 use Rattle.drc_run.specs.Reports.{AreFindings, IsReport, IsOpening, report_text, refused_line, why_edit, why_step}
-use Rattle.drc_run.specs.Turns.{IsTurn, refused, made, IsStepTurn, unstepped, stepped}
+use Rattle.drc_run.specs.CommandOutputs.{IsTurn, refused, made, IsStepTurn, unstepped, stepped}
 use Rattle.drc_run.proofs.TurnLists.{IsOne}
 
 module _ (one_list : (c : Checked) (a b : List PlainRow) → AreRows c a → AreRows c b → a ≡ b)

@@ -1,7 +1,7 @@
 -- A text and commands give one output.
 use Rattle.std.proofs.Common.{◌≡◌, ◌∙◌, ap, sym, ℕ, List}
 use Rattle.edit_script.specs.Commands.{PlainCommand}
-use Rattle.board_write.specs.Answers.{Outcome}
+use Rattle.board_write.specs.WriteResults.{Outcome}
 use Rattle.drc_run.specs.Output.{Output, status_after, IsBoardWritten}
 
 module _ (one_outcome : (text : List ℕ) (commands : List PlainCommand) (m n : ℕ) (a : Outcome text commands m) (b : Outcome text commands n) → (m ≡ n) × (a.out ≡ b.out)) where

@@ -1,6 +1,6 @@
 -- From the values of the texts to what they open, and to the output.
 use Rattle.std.proofs.Common.{◌≡◌, ℕ, List, [], ◌++◌, Option, Some, None, refl, sym}
-use Rattle.net_class.specs.Classes.{PlainClasses, plain_classes}
+use Rattle.net_class.specs.NetClasses.{PlainClasses, plain_classes}
 use Rattle.rule_text.specs.RulesOf.{PlainRules, no_rules}
 use Rattle.edit_script.specs.Commands.{PlainCommand}
 use Rattle.drc_state.specs.States.{State}
@@ -8,11 +8,11 @@ use Rattle.run_words.specs.Calls.{Reading, PlainCall}
 use Rattle.run_texts.specs.declared.texts.Which.TheVariants.{Project, Rules, Script}
 use Rattle.run_texts.specs.declared.texts.Stop.{Stop}
 use Rattle.run_texts.specs.declared.texts.Stop.TheVariants.{Refused, Unread, OutOfMemory}
-use Rattle.run_texts.specs.Texts.{Value, a_project, a_rules, a_script}
-use Rattle.run_texts.specs.Refusing.{why_of, StopsTexts, Gives, AreOpened}
+use Rattle.run_texts.specs.NamedTexts.{Value, a_project, a_rules, a_script}
+use Rattle.run_texts.specs.RunFindings.{why_of, StopsTexts, Gives, AreOpened}
 use Rattle.run_texts.proofs.Accepting.{given, values_of}
 use Rattle.drc_run.specs.Output.{Output, classes_among, rules_among, commands_among, IsOpenedBy, IsOutputFor, stopped}
-use Rattle.drc_run.specs.Refusing.{IsLineOf}
+use Rattle.drc_run.specs.RefusalLines.{IsLineOf}
 
 module _ (told : Option (List (List ℕ × List ℕ))) where
   pub same_classes : (a b : PlainClasses) → a_project a ≡ a_project b → a ≡ b

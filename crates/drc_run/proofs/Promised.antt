@@ -2,17 +2,17 @@
 use Rattle.std.proofs.Common.{◌≡◌, ◌⊎◌, ◌<◌, ◌≤◌, ℕ, List, ◌++◌, Option, Some, None, IfSome, inl, inr, sym, ap, subst, ◌∙◌, refl, arith}
 use Rattle.std.proofs.lemmas.List.{append_assoc}
 use Rattle.std.specs.Io.KnownBytes.{Appends}
-use Rattle.drc_io.specs.Causes.{Rose}
-use Rattle.drc_io.specs.Sinks.{AppendsFront}
+use Rattle.drc_io.specs.FaultCounts.{Rose}
+use Rattle.drc_io.specs.Sinks.{AppendsPrefix}
 use denote.Enum.Declared.{tag_of}
 use Rattle.run_words.specs.Calls.{PlainCall}
 use Rattle.run_texts.specs.declared.texts.Which.{Which}
-use Rattle.run_texts.specs.Texts.{ReadFails}
+use Rattle.run_texts.specs.NamedTexts.{ReadFails}
 use Rattle.drc_run.specs.contracts.status.Status.{the_type}
 use Rattle.drc_run.specs.declared.status.Status.{Status}
 use Rattle.drc_run.specs.declared.status.Status.TheVariants.{Clean, Rows, Usage, Refused, ReadFault, WriteFault, OutOfMemory}
 use Rattle.drc_run.specs.Output.{Output, IsOutputFor, IsBegunFor}
-use Rattle.drc_run.specs.Endings.{Whole, Front, FrontOf, Unread, UnreadFront, Ends, EndsFor, Promises}
+use Rattle.drc_run.specs.RunEndings.{Whole, Prefix, PrefixOf, Unread, UnreadPrefix, Ends, EndsFor, Promises}
 
 module _ (IsIt : Output → Type 0) (IsBegun : List ℕ → Type 0) (Fault : Which → Type 0) (old new : Option (List ℕ)) where
   small : (s : Status) → tag_of the_type s ≤ 6
@@ -42,7 +42,7 @@ module _ (IsIt : Output → Type 0) (IsBegun : List ℕ → Type 0) (Fault : Whi
   unread_at WriteFault w h = absurd (omega arith)
   unread_at OutOfMemory w h = absurd (omega arith)
 
-  part_at : (s : Status) → Ends IsIt IsBegun Fault old new s → tag_of the_type s ≡ 5 → Front IsBegun old new ⊎ UnreadFront Fault old new
+  part_at : (s : Status) → Ends IsIt IsBegun Fault old new s → tag_of the_type s ≡ 5 → Prefix IsBegun old new ⊎ UnreadPrefix Fault old new
   part_at Clean w h = absurd (omega arith)
   part_at Rows w h = absurd (omega arith)
   part_at Usage w h = absurd (omega arith)
@@ -51,14 +51,14 @@ module _ (IsIt : Output → Type 0) (IsBegun : List ℕ → Type 0) (Fault : Whi
   part_at WriteFault w h = w
   part_at OutOfMemory w h = absurd (omega arith)
 
-  front_at : (s : Status) → Ends IsIt IsBegun Fault old new s → tag_of the_type s ≡ 6 → Front IsBegun old new
-  front_at Clean w h = absurd (omega arith)
-  front_at Rows w h = absurd (omega arith)
-  front_at Usage w h = absurd (omega arith)
-  front_at Refused w h = absurd (omega arith)
-  front_at ReadFault w h = absurd (omega arith)
-  front_at WriteFault w h = absurd (omega arith)
-  front_at OutOfMemory w h = w
+  prefix_at : (s : Status) → Ends IsIt IsBegun Fault old new s → tag_of the_type s ≡ 6 → Prefix IsBegun old new
+  prefix_at Clean w h = absurd (omega arith)
+  prefix_at Rows w h = absurd (omega arith)
+  prefix_at Usage w h = absurd (omega arith)
+  prefix_at Refused w h = absurd (omega arith)
+  prefix_at ReadFault w h = absurd (omega arith)
+  prefix_at WriteFault w h = absurd (omega arith)
+  prefix_at OutOfMemory w h = w
 
   module _ (m n : ℕ) where
     rose_at : (s : Status) → (s ≡ WriteFault → Rose m n) → tag_of the_type s ≡ 5 → Rose m n
@@ -83,30 +83,30 @@ module _ (IsIt : Output → Type 0) (IsBegun : List ℕ → Type 0) (Fault : Whi
   its_status status same w out is =
       (sym w.2 ∙ ap (λ (o : Output). o.status) (same w.0 out w.1 is), subst (λ (o : Output). Appends old new o.text) (same w.0 out w.1 is) w.3)
 
--- a front part of what a text begins with is one of the text
-longer : (old new : Option (List ℕ)) (text whole rest : List ℕ) → whole ≡ text ++ rest → AppendsFront old new text → AppendsFront old new whole
+-- a prefix of what a text begins with is one of the text
+longer : (old new : Option (List ℕ)) (text whole rest : List ℕ) → whole ≡ text ++ rest → AppendsPrefix old new text → AppendsPrefix old new whole
 longer old new text whole rest e a = record {
-  front = a.front;
+  prefix = a.prefix;
   rest = a.rest ++ rest;
-  whole = e ∙ (ap (λ xs. xs ++ rest) a.whole ∙ append_assoc a.front a.rest rest);
+  whole = e ∙ (ap (λ xs. xs ++ rest) a.whole ∙ append_assoc a.prefix a.rest rest);
   appended = a.appended;
 }
 
 module _ (begun : (call : PlainCall) (files : List (List ℕ × List ℕ)) (text : List ℕ) (out : Output) → IsBegunFor call (Some files) text → IsOutputFor call (Some files) out → (rest : List ℕ) × (out.text ≡ text ++ rest)) where
-  front_of : (call : PlainCall) (files : List (List ℕ × List ℕ)) (old new : Option (List ℕ)) (out : Output) → IsOutputFor call (Some files) out → Front (IsBegunFor call (Some files)) old new → FrontOf out.text old new
-  front_of call files old new out is (inl k) = inl k
-  front_of call files old new out is (inr f) = let more = begun call files f.0 out f.1 is in inr (longer old new f.0 out.text more.0 more.1 f.2)
+  prefix_of : (call : PlainCall) (files : List (List ℕ × List ℕ)) (old new : Option (List ℕ)) (out : Output) → IsOutputFor call (Some files) out → Prefix (IsBegunFor call (Some files)) old new → PrefixOf out.text old new
+  prefix_of call files old new out is (inl k) = inl k
+  prefix_of call files old new out is (inr f) = let more = begun call files f.0 out f.1 is in inr (longer old new f.0 out.text more.0 more.1 f.2)
 
   part_of : (call : PlainCall) (files : List (List ℕ × List ℕ)) (old new : Option (List ℕ)) (Fault : Which → Type 0) (out : Output) → IsOutputFor call (Some files) out
-      → Front (IsBegunFor call (Some files)) old new ⊎ UnreadFront Fault old new → FrontOf out.text old new ⊎ UnreadFront Fault old new
-  part_of call files old new Fault out is (inl f) = inl (front_of call files old new out is f)
+      → Prefix (IsBegunFor call (Some files)) old new ⊎ UnreadPrefix Fault old new → PrefixOf out.text old new ⊎ UnreadPrefix Fault old new
+  part_of call files old new Fault out is (inl f) = inl (prefix_of call files old new out is f)
   part_of call files old new Fault out is (inr u) = inr u
 
-  fronts_at : (call : PlainCall) (told : Option (List (List ℕ × List ℕ))) (Fault : Which → Type 0) (old new : Option (List ℕ)) (s : Status) → Ends (IsOutputFor call told) (IsBegunFor call told) Fault old new s
-      → IfSome told (λ files. (out : Output) → IsOutputFor call (Some files) out → (tag_of the_type s ≡ 6 → FrontOf out.text old new) × (tag_of the_type s ≡ 5 → FrontOf out.text old new ⊎ UnreadFront Fault old new))
-  fronts_at call None Fault old new s w = tt
-  fronts_at call (Some files) Fault old new s w = λ out is. (
-    λ h. front_of call files old new out is (front_at (IsOutputFor call (Some files)) (IsBegunFor call (Some files)) Fault old new s w h),
+  prefixes_at : (call : PlainCall) (told : Option (List (List ℕ × List ℕ))) (Fault : Which → Type 0) (old new : Option (List ℕ)) (s : Status) → Ends (IsOutputFor call told) (IsBegunFor call told) Fault old new s
+      → IfSome told (λ files. (out : Output) → IsOutputFor call (Some files) out → (tag_of the_type s ≡ 6 → PrefixOf out.text old new) × (tag_of the_type s ≡ 5 → PrefixOf out.text old new ⊎ UnreadPrefix Fault old new))
+  prefixes_at call None Fault old new s w = tt
+  prefixes_at call (Some files) Fault old new s w = λ out is. (
+    λ h. prefix_of call files old new out is (prefix_at (IsOutputFor call (Some files)) (IsBegunFor call (Some files)) Fault old new s w h),
     λ h. part_of call files old new Fault out is (part_at (IsOutputFor call (Some files)) (IsBegunFor call (Some files)) Fault old new s w h),
   )
 
@@ -130,10 +130,10 @@ module _ (once : (call : PlainCall) (files : List (List ℕ × List ℕ)) (a b :
         read = unread_at IsIt IsBegun Fault old new s w;
         write = rose_at IsIt IsBegun Fault old new m n s f;
         part = part_at IsIt IsBegun Fault old new s w;
-        memory = front_at IsIt IsBegun Fault old new s w;
+        memory = prefix_at IsIt IsBegun Fault old new s w;
         complete = complete_at IsIt IsBegun Fault old new m n s w f;
         exact = exact_at call told IsBegun Fault old new s w;
-        front = fronts_at begun call told Fault old new s w;
+        prefix = prefixes_at begun call told Fault old new s w;
       }
 
   -- the same for the words

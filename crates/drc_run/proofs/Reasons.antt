@@ -6,10 +6,10 @@ use Rattle.plain_types.specs.Reasons.{PlainCause, PlainReason, cause_before, lis
 use Rattle.drc_state.specs.declared.error.EditError.{EditError}
 use Rattle.undo_log.specs.declared.error.HistoryError.{HistoryError}
 use Rattle.undo_log.specs.declared.error.HistoryError.TheVariants.{Edit, NothingToUndo, NothingToRedo, Stopped, OutOfMemory}
-use Rattle.undo_log.specs.Reasons.{step_reason}
+use Rattle.undo_log.specs.HistoryReasons.{step_reason}
 use Rattle.run_texts.specs.declared.texts.Which.{Which}
-use Rattle.run_texts.specs.Texts.{word_of, inner_text, why_at, reason_text}
-use Rattle.run_texts.specs.Refusing.{plus_text, digits_text}
+use Rattle.run_texts.specs.NamedTexts.{word_of, inner_text, why_at, reason_text}
+use Rattle.run_texts.specs.RunFindings.{plus_text, digits_text}
 use Rattle.drc_run.specs.declared.lines.Told.{Told}
 use Rattle.drc_run.specs.Output.{refusal}
 use Rattle.drc_run.specs.Reports.{step_told, refused_behind}
@@ -107,34 +107,34 @@ all_in_a_row : (a b n c names opens numbers closes at digits plus inner end : Li
 all_in_a_row a b n c names opens numbers closes at digits plus inner end = simp append_assoc
 
 -- the pieces of the line
-abbrev pub row : (front word digits behind name a second_name b third_name c fourth_name number d second e third f fourth at place plus inner : List ℕ) → List ℕ
-row front word digits behind name a second_name b third_name c fourth_name number d second e third f fourth at place plus inner =
-    front ++ (word ++ (digits ++ (behind ++ followed name a second_name b third_name c fourth_name
+abbrev pub row : (prefix word digits behind name a second_name b third_name c fourth_name number d second e third f fourth at place plus inner : List ℕ) → List ℕ
+row prefix word digits behind name a second_name b third_name c fourth_name number d second e third f fourth at place plus inner =
+    prefix ++ (word ++ (digits ++ (behind ++ followed name a second_name b third_name c fourth_name
     (codes " (" ++ followed number d second e third f fourth (codes ")" ++ (at ++ (place ++ (plus ++ (inner ++ codes "\n")))))))))
 
-abbrev pub row_of : (front word digits behind : List ℕ) → Told → List ℕ
-row_of front word digits behind told =
+abbrev pub row_of : (prefix word digits behind : List ℕ) → Told → List ℕ
+row_of prefix word digits behind told =
     let c = told.causes in
     let both = inner_behind told.place told.inner in
-    row front word digits behind c.first.name.now (point_text c.second) (name_text c.second) (point_text c.third) (name_text c.third) (point_text c.fourth) (name_text c.fourth)
+    row prefix word digits behind c.first.name.now (point_text c.second) (name_text c.second) (point_text c.third) (name_text c.third) (point_text c.fourth) (name_text c.fourth)
     (decimal c.first.number) (point_text c.second) (number_text c.second) (point_text c.third) (number_text c.third) (point_text c.fourth) (number_text c.fourth)
     (at_text told.place) (digits_text told.place) (plus_text both) (digits_text both)
 
-pub line_of : (front word digits behind : List ℕ) (told : Told) → row_of front word digits behind told ≡ reason_line front (word ++ digits) behind (reason_told told)
+pub line_of : (prefix word digits behind : List ℕ) (told : Told) → row_of prefix word digits behind told ≡ reason_line prefix (word ++ digits) behind (reason_told told)
 unfolding reason_line
-line_of front word digits behind told =
+line_of prefix word digits behind told =
     let c = told.causes in
     let both = inner_behind told.place told.inner in
     let places : List ℕ = codes ")" ++ (at_text told.place ++ (digits_text told.place ++ (plus_text both ++ (digits_text both ++ codes "\n")))) in
     let numbers : List ℕ = followed (decimal c.first.number) (point_text c.second) (number_text c.second) (point_text c.third) (number_text c.third) (point_text c.fourth) (number_text c.fourth) places in
-    ap (λ (l : List ℕ). front ++ (word ++ (digits ++ (behind ++ l))))
+    ap (λ (l : List ℕ). prefix ++ (word ++ (digits ++ (behind ++ l))))
     (apart c.first.name.now (point_text c.second) (name_text c.second) (point_text c.third) (name_text c.third) (point_text c.fourth) (name_text c.fourth) (codes " (" ++ numbers)
     ∙ (ap (λ (l : List ℕ). l ++ (codes " (" ++ numbers)) (names_row c)
     ∙ ap (λ (l : List ℕ). names_of (listed_causes c) ++ (codes " (" ++ l))
     (apart (decimal c.first.number) (point_text c.second) (number_text c.second) (point_text c.third) (number_text c.third) (point_text c.fourth) (number_text c.fourth) places
     ∙ ap (λ (l : List ℕ). l ++ places) (numbers_row c))))
-    ∙ (all_in_a_row front word digits behind (names_of (listed_causes c)) (codes " (") (numbers_of (listed_causes c)) (codes ")") (at_text told.place) (digits_text told.place) (plus_text both) (digits_text both) (codes "\n")
-    ∙ ap (λ (l : List ℕ). front ++ (word ++ digits) ++ behind ++ l ++ codes "\n") (behind_reason (written (reason_told told)) told.place told.inner))
+    ∙ (all_in_a_row prefix word digits behind (names_of (listed_causes c)) (codes " (") (numbers_of (listed_causes c)) (codes ")") (at_text told.place) (digits_text told.place) (plus_text both) (digits_text both) (codes "\n")
+    ∙ ap (λ (l : List ℕ). prefix ++ (word ++ digits) ++ behind ++ l ++ codes "\n") (behind_reason (written (reason_told told)) told.place told.inner))
 
 -- the line of a text that is refused
 pub refusal_line : (which : Which) (word : List ℕ) (told why : PlainReason) → word ≡ word_of which → told ≡ why → reason_line (codes "refused ") (word ++ []) (codes ": ") told ≡ (refusal which (reason_text why)).text

@@ -3,20 +3,20 @@ use Rattle.std.proofs.Common.{◌≡◌, inl, inr, refl, sym, subst, ℕ, ◌≤
 use Rattle.board_items.specs.Boards.{PlainBoard}
 use Rattle.edit_script.specs.Commands.{PlainCommand}
 use Rattle.edit_script.specs.Fits.{AreShallow}
-use Rattle.roundtrip_boards.specs.Written.{IsWritten}
-use Rattle.roundtrip_boards.specs.Same.{IsReadBack}
-use Rattle.board_write.specs.Answers.{Outcome, Wrote, WroteFront}
+use Rattle.roundtrip_boards.specs.WrittenBoard.{IsWritten}
+use Rattle.roundtrip_boards.specs.SameBoards.{IsReadBack}
+use Rattle.board_write.specs.WriteResults.{Outcome, WroteWhole, WrotePrefix}
 use Rattle.run_words.specs.Calls.{write}
 use Rattle.run_texts.specs.declared.texts.Stop.{Stop}
 use Rattle.run_texts.specs.declared.texts.Which.{Which}
 use Rattle.run_texts.specs.declared.texts.Which.TheVariants.{Text, Script}
-use Rattle.run_texts.specs.Texts.{named, texts_of, Value, a_text, a_script, accepted, SourceSays, AreAccepted, ReadFails}
-use Rattle.run_texts.specs.Refusing.{StopsText, StopsTexts}
+use Rattle.run_texts.specs.NamedTexts.{named, texts_of, Value, a_text, a_script, accepted, SourceSays, AreAccepted, ReadFails}
+use Rattle.run_texts.specs.RunFindings.{StopsText, StopsTexts}
 use Rattle.run_texts.proofs.Accepting.{reached, stops_at, later}
 use Rattle.drc_run.specs.declared.status.Status.{Status}
 use Rattle.drc_run.specs.declared.status.Status.TheVariants.{Clean, Rows, Usage, Refused, ReadFault, WriteFault, OutOfMemory}
 use Rattle.drc_run.specs.Output.{Output, status_after, IsBoardWritten, IsOutputFor, given, IsBegunFor, whole}
-use Rattle.drc_run.specs.Endings.{Whole, Ends, EndsFor, IsTextOfOne, number_of}
+use Rattle.drc_run.specs.RunEndings.{Whole, Ends, EndsFor, IsTextOfOne, number_of}
 use Rattle.drc_run.proofs.Written.{ends_as, its_text}
 
 -- ---- the status
@@ -67,13 +67,13 @@ module _ (read_back : IsReadBack)
       }
 
   -- all was written
-  pub wrote_ends : (refused : ℕ) (s : Status) → Wrote text commands old new refused → number_of s ≡ status_after refused → Ends IsIt (IsTextOfOne IsIt) (λ _. ⊥) old new s
+  pub wrote_ends : (refused : ℕ) (s : Status) → WroteWhole text commands old new refused → number_of s ≡ status_after refused → Ends IsIt (IsTextOfOne IsIt) (λ _. ⊥) old new s
   wrote_ends refused s w e =
       ended IsIt (IsTextOfOne IsIt) (λ _. ⊥) old new refused s e (output_of refused w.0, is_output refused w.0, sym e, w.1)
 
-  -- a front part was written
-  pub front_ends : WroteFront text commands old new → Ends IsIt (IsTextOfOne IsIt) (λ _. ⊥) old new WriteFault
-  front_ends w = inl (inr (w.1.out, its_text IsIt (output_of w.0 w.1) (is_output w.0 w.1), w.2))
+  -- a prefix was written
+  pub prefix_ends : WrotePrefix text commands old new → Ends IsIt (IsTextOfOne IsIt) (λ _. ⊥) old new WriteFault
+  prefix_ends w = inl (inr (w.1.out, its_text IsIt (output_of w.0 w.1) (is_output w.0 w.1), w.2))
 
 -- ---- the texts
 
@@ -91,7 +91,7 @@ module _ (told : Option (List (List ℕ × List ℕ))) (board script : List ℕ)
         stops_at told before now (write board script) (named Script script) stop (reached told (named Text board ∷ []) [] (a_text text ∷ []) (named Script script) (says, tt))
         (later told before now middle (named Script script) stop up s)
 
-  -- both are accepted, and what the call left was an output or a front part of it
+  -- both are accepted, and what the call left was an output or a prefix of it
   module _ (text : List ℕ) (commands : List PlainCommand) (first : SourceSays told (named Text board) (accepted (a_text text))) (second : SourceSays told (named Script script) (accepted (a_script commands))) where
     abbrev values : List Value
     values = a_text text ∷ a_script commands ∷ []
@@ -102,8 +102,8 @@ module _ (told : Option (List (List ℕ × List ℕ))) (board script : List ℕ)
     as_output : (out : Output) → IsBoardWritten text commands out → IsOutputFor (write board script) told out
     as_output out it = given values all_accepted (text, refl, it)
 
-    as_begun : (front : List ℕ) → IsTextOfOne (IsBoardWritten text commands) front → IsBegunFor (write board script) told front
-    as_begun front it = whole it.0 (as_output it.0 it.1) it.2
+    as_begun : (prefix : List ℕ) → IsTextOfOne (IsBoardWritten text commands) prefix → IsBegunFor (write board script) told prefix
+    as_begun prefix it = whole it.0 (as_output it.0 it.1) it.2
 
     pub rewritten_ends : (before now : List ℕ → ℕ) (old new : Option (List ℕ)) (s : Status) → Ends (IsBoardWritten text commands) (IsTextOfOne (IsBoardWritten text commands)) (λ _. ⊥) old new s
         → EndsFor (write board script) told before now old new s

@@ -1,17 +1,17 @@
 -- From what was written of a board and a script to the end of a run.
 use Rattle.std.proofs.Common.{ℕ, List, [], ◌∷◌, Option, refl}
-use Rattle.net_class.specs.Classes.{plain_classes}
+use Rattle.net_class.specs.NetClasses.{plain_classes}
 use Rattle.rule_text.specs.RulesOf.{no_rules}
 use Rattle.edit_script.specs.Commands.{PlainCommand, PlainStep}
 use Rattle.drc_state.specs.States.{State}
 use Rattle.run_words.specs.Calls.{undo, try}
 use Rattle.run_texts.specs.declared.texts.Which.TheVariants.{Steps, Trials}
-use Rattle.run_texts.specs.Texts.{named, texts_of, Value, a_board, a_script, some_steps, accepted, SourceSays, AreAccepted, ReadFails}
-use Rattle.run_texts.specs.Refusing.{AreOpened, only_board}
+use Rattle.run_texts.specs.NamedTexts.{named, texts_of, Value, a_board, a_script, some_steps, accepted, SourceSays, AreAccepted, ReadFails}
+use Rattle.run_texts.specs.RunFindings.{AreOpened, only_board}
 use Rattle.drc_run.specs.declared.status.Status.{Status}
 use Rattle.drc_run.specs.Output.{Output, IsOpenedBy, AreStepsTold, AreStepsToldSoFar, AreTrialsTold, IsOutputFor, given, IsBegunFor, whole, begun_by}
-use Rattle.drc_run.specs.Running.{AreTrialsToldSoFar, first_of_them, all_of_them}
-use Rattle.drc_run.specs.Endings.{Ends, EndsFor}
+use Rattle.drc_run.specs.RunResults.{AreTrialsToldSoFar, first_of_them, all_of_them}
+use Rattle.drc_run.specs.RunEndings.{Ends, EndsFor}
 use Rattle.drc_run.proofs.Written.{ends_as}
 use Rattle.drc_run.proofs.Opening.{same_classes, same_rules}
 

@@ -9,13 +9,13 @@ use Rattle.drc_session.specs.Sessions.{PlainSession, IsApplied}
 use Rattle.undo_log.specs.declared.error.HistoryError.{HistoryError}
 use Rattle.undo_log.specs.declared.error.HistoryError.TheVariants.{Edit, NothingToUndo, NothingToRedo, Stopped, OutOfMemory as NoMemory}
 use Rattle.undo_log.specs.Past.{Past, StepAnswers, does_replace}
-use Rattle.undo_log.specs.Taking.{IsRefused}
+use Rattle.undo_log.specs.HistoryCalls.{IsStepRefused}
 use Rattle.undo_log.specs.Ways.{PlainHistory, IsPastOf}
 use Rattle.drc_run.specs.declared.check.Break.{Break}
 use Rattle.drc_run.specs.declared.check.Break.TheVariants.{Unwritten}
 use Rattle.drc_run.specs.Reports.{AreFindings, report_text, refused_line, why_step}
-use Rattle.drc_run.specs.Turns.{IsStepTurn, unstepped, stepped}
-use Rattle.drc_run.specs.Running.{found_of, IsStepTaken, IsStepBroken, AreTaken, AreBroken, IsStepAnswered, wanting, line, AreStepsSoFar}
+use Rattle.drc_run.specs.CommandOutputs.{IsStepTurn, unstepped, stepped}
+use Rattle.drc_run.specs.RunResults.{found_of, IsStepTaken, IsStepBroken, AreTaken, AreBroken, IsStepAnswered, wanting, line, AreStepsSoFar}
 use Rattle.drc_run.proofs.Turning.{none_taken, more_taken, stopped_at, all_taken, one_longer}
 
 -- ---- one step
@@ -54,8 +54,8 @@ module _ (number : ℕ) (was : PlainHistory) (step : PlainStep) (is : PlainHisto
       subst (λ (x : Result (Unit {0}) Break). IfErr x (λ _. IsStepBroken number was step old new)) (sym e)
       (inr (λ past are. (let t = takes past are in record { next = t.next; text = text; turn = t.turn; written = w.bytes })))
 
--- what is refused but for want of memory
-refused_is : (was is : PlainHistory) (step : PlainStep) (why : HistoryError) → was.stopped ≡ false → (why ≡ NoMemory → ⊥) → IsRefused was is step why
+-- what is refused but for running out of memory
+refused_is : (was is : PlainHistory) (step : PlainStep) (why : HistoryError) → was.stopped ≡ false → (why ≡ NoMemory → ⊥) → IsStepRefused was is step why
     → ((past : Past) → IsPastOf was past → StepAnswers past step (Err why)) × (is ≡ was)
 refused_is was is step (Edit e) runs n h = (h.1, h.2)
 refused_is was is step NothingToUndo runs n h = (h.1, h.2)
@@ -64,7 +64,7 @@ refused_is was is step Stopped runs n h = let both : true ≡ false = sym h.0 �
 refused_is was is step NoMemory runs n h = absurd (n refl)
 
 module _ (number : ℕ) (was is : PlainHistory) (step : PlainStep) (why : HistoryError) (old new : Option (List ℕ)) (m n : ℕ) (b : Result (Unit {0}) Break)
-    (runs : was.stopped ≡ false) (by : IsRefused was is step why) where
+    (runs : was.stopped ≡ false) (by : IsStepRefused was is step why) where
   takes_none : (why ≡ NoMemory → ⊥) → (past : Past) → IsPastOf was past → Takes number past step is (refused_line number (why_step why))
   takes_none other past are =
       let h = refused_is was is step why runs other by in

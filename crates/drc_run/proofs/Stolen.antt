@@ -1,19 +1,19 @@
 -- From the rows that were written to the end of a run.
 use Rattle.std.proofs.Common.{◌≡◌, ◌∙◌, ap, sym, ℕ, List, [], ◌∷◌, Option, Result, Ok, Err, MatchResult, refl, arith}
-use Rattle.net_class.specs.Classes.{plain_classes}
+use Rattle.net_class.specs.NetClasses.{plain_classes}
 use Rattle.rule_text.specs.RulesOf.{no_rules}
 use Rattle.drc_state.specs.States.{State}
-use Rattle.drc_io.specs.Causes.{Rose}
+use Rattle.drc_io.specs.FaultCounts.{Rose}
 use Rattle.drc_io.specs.Sinks.{Writes}
 use Rattle.drc_io.specs.declared.Failed.{Failed}
 use Rattle.pair_check.specs.PlainRow.{PlainRow}
 use Rattle.run_words.specs.Calls.{steal}
-use Rattle.run_texts.specs.Texts.{texts_of, Value, a_board, AreAccepted, ReadFails}
-use Rattle.run_texts.specs.Refusing.{AreOpened, only_board}
+use Rattle.run_texts.specs.NamedTexts.{texts_of, Value, a_board, AreAccepted, ReadFails}
+use Rattle.run_texts.specs.RunFindings.{AreOpened, only_board}
 use Rattle.drc_run.specs.declared.status.Status.{Status}
 use Rattle.drc_run.specs.declared.status.Status.TheVariants.{WriteFault}
 use Rattle.drc_run.specs.Output.{Output, IsOpenedBy, AreRowsTold, status_of, IsOutputFor, given, IsBegunFor, whole}
-use Rattle.drc_run.specs.Endings.{Ends, EndsFor, IsTextOfOne, number_of}
+use Rattle.drc_run.specs.RunEndings.{Ends, EndsFor, IsTextOfOne, number_of}
 use Rattle.drc_run.proofs.Written.{ends_as}
 use Rattle.drc_run.proofs.Opening.{same_classes, same_rules}
 

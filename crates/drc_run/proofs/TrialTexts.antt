@@ -6,7 +6,7 @@ use Rattle.std.proofs.KnownBytes.{Appends-trans}
 use Rattle.std.proofs.lemmas.List.Elements.{All-contains}
 use Rattle.drc_io.specs.Sinks.{Writes}
 use Rattle.drc_io.specs.declared.Failed.{Failed}
-use Rattle.drc_io.proofs.Writing.{AppendsFront-after}
+use Rattle.drc_io.proofs.Writing.{AppendsPrefix-after}
 use Rattle.pair_check.specs.PlainRow.{PlainRow}
 use Rattle.pair_check.specs.Rows.{Checked, IsRow, AreRows}
 use Rattle.edit_script.specs.Commands.{PlainCommand}
@@ -19,17 +19,17 @@ use Rattle.what_if.specs.declared.error.TrialError.TheVariants.{Refused, OutOfMe
 use Rattle.what_if.specs.Trials.{IsSurvey}
 use Rattle.what_if.specs.Tried.{IsRefusal, IsRefusedHere}
 use Rattle.what_if.proofs.Stopping.{Stops, stops, refused_alone}
-use Rattle.drc_run.specs.declared.trial_results.Outlook.{Outlook}
+use Rattle.drc_run.specs.declared.trial_results.TrialResult.{TrialResult}
 use Rattle.drc_run.specs.declared.status.Status.{Status}
 use Rattle.drc_run.specs.declared.status.Status.TheVariants.{WriteFault}
 use Rattle.drc_run.specs.declared.check.Break.{Break}
 use Rattle.drc_run.specs.declared.check.Break.TheVariants.{Unwritten}
 use Rattle.drc_run.specs.Reports.{refused_trial, why_edit}
-use Rattle.drc_run.specs.Turns.{marked_lines, IsTrialText, or_some, IsTrial, untried, tried}
+use Rattle.drc_run.specs.CommandOutputs.{marked_lines, IsTrialText, or_some, IsTrial, untried, tried}
 use Rattle.drc_run.specs.Output.{Output, status_if, AreTrialsTold}
-use Rattle.drc_run.specs.Outlooks.{IsOutlook, outlook_text}
-use Rattle.drc_run.specs.Running.{IsTurnTaken, IsBroken, AreTaken, IsLeastWritten, AreTrialsToldSoFar, all_of_them}
-use Rattle.drc_run.specs.Endings.{Whole, Ends, trials_status}
+use Rattle.drc_run.specs.TrialResults.{IsTrialResult, trial_result_text}
+use Rattle.drc_run.specs.RunResults.{IsTurnTaken, IsBroken, AreTaken, IsLeastWritten, AreTrialsToldSoFar, all_of_them}
+use Rattle.drc_run.specs.RunEndings.{Whole, Ends, trials_status}
 
 -- ---- rows
 
@@ -52,7 +52,7 @@ one_alone f xs x e = ap (flat_map f) e ∙ append-nil (f x)
 -- ---- one trial
 
 -- the parts of its text
-module _ (n : ℕ) (s : State) (o : Outlook) where
+module _ (n : ℕ) (s : State) (o : TrialResult) where
   abbrev pub first_text : List ℕ
   first_text = number_line (codes "trial ") n []
 
@@ -62,7 +62,7 @@ module _ (n : ℕ) (s : State) (o : Outlook) where
   abbrev pub last_text : List ℕ
   last_text = number_line (codes "rows ") o.count []
 
-  pub behind_first : outlook_text n s o ≡ first_text ++ (gone_text ++ o.lines.items ++ last_text)
+  pub behind_first : trial_result_text n s o ≡ first_text ++ (gone_text ++ o.lines.items ++ last_text)
   behind_first = by_parts first_text gone_text o.lines.items last_text
     where
       by_parts : (a b d e : List ℕ) → a ++ b ++ d ++ e ≡ a ++ (b ++ d ++ e)
@@ -86,10 +86,10 @@ alone_refused s command commands e same by = by_error e (subst (λ (cs : List Pl
     by_error NoTrial h = tt
 
 module _ (s : State) (command : PlainCommand) where
-  pub carried : (n : ℕ) (comes next : Bool) (o : Outlook) → IsOutlook s command o → next ≡ comes || o.comes → IsTrial s n comes command next (outlook_text n s o)
+  pub carried : (n : ℕ) (comes next : Bool) (o : TrialResult) → IsTrialResult s command o → next ≡ comes || o.comes → IsTrial s n comes command next (trial_result_text n s o)
   carried n comes next o is e = tried is.after is.answer is.come text (e ∙ (ap (λ (b : Bool). comes || b) is.comes_is ∙ sym (or_some_by comes is.come)))
     where
-      text : IsTrialText n s is.after is.come (outlook_text n s o)
+      text : IsTrialText n s is.after is.come (trial_result_text n s o)
       text = record {
         gone = o.gone.items;
         rows = is.rows;
@@ -142,7 +142,7 @@ module _ (opening : State) (commands : List PlainCommand) (old mid new : Option 
   by_status false w = w
   by_status true w = w
 
-  -- all trials were written, and then the last line or a front part of it
+  -- all trials were written, and then the last line or a prefix of it
   pub trials_whole : (comes : Bool) (counts : List (Option ℕ)) (least : Option ℕ) (m n : ℕ) (r : Result (Unit {0}) Failed) (s : Status) → AreTaken (IsTrial opening) false commands comes old mid → IsSurvey opening commands counts least
       → IsLeastWritten counts least mid new m n r → MatchResult r (λ _. s ≡ trials_status comes) (λ _. s ≡ WriteFault) → Ends told told_so_far (λ _. ⊥) old new s
   trials_whole comes counts least m n r s taken survey line e = by_result r line.writes e
@@ -166,4 +166,4 @@ module _ (opening : State) (commands : List PlainCommand) (old mid new : Option 
 
       by_result : (x : Result (Unit {0}) Failed) → Writes {T = Unit {0}} {E = Failed} mid new m n line.text x → MatchResult x (λ _. s ≡ trials_status comes) (λ _. s ≡ WriteFault) → Ends told told_so_far (λ _. ⊥) old new s
       by_result (Ok u) w f = subst (Ends told told_so_far (λ _. ⊥) old new) (sym f) (by_status comes (out, all, refl, Appends-trans old mid new taken.text line.text taken.written w.bytes))
-      by_result (Err x) w f = subst (Ends told told_so_far (λ _. ⊥) old new) (sym f) (inl (inr (out.text, all_of_them out all refl, AppendsFront-after old mid new taken.text line.text taken.written w.bytes)))
+      by_result (Err x) w f = subst (Ends told told_so_far (λ _. ⊥) old new) (sym f) (inl (inr (out.text, all_of_them out all refl, AppendsPrefix-after old mid new taken.text line.text taken.written w.bytes)))

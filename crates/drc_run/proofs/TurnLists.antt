@@ -1,7 +1,7 @@
 -- Turns one after another.
 use Rattle.std.proofs.Common.{◌≡◌, ◌∙◌, ap, sym, subst, refl, ℕ, ◌+◌, List, [], ◌∷◌, ◌++◌, length, arith}
 use Rattle.std.proofs.lemmas.List.{append-nil, append_assoc}
-use Rattle.drc_run.specs.Turns.{AreTurns, AreFirstTurns}
+use Rattle.drc_run.specs.CommandOutputs.{AreTurns, AreFirstTurns}
 
 -- a turn leads to one state and writes one text
 abbrev pub IsOne : {S C : Type 0} → (ℕ → S → C → S → List ℕ → Type 0) → Type 0
@@ -25,13 +25,13 @@ module _ {S C : Type 0} (Turn : ℕ → S → C → S → List ℕ → Type 0) w
       let rest = one_text one (n + 1) k.0 commands a b h.2 k.2 (subst (λ (x : S). AreTurns Turn (n + 1) x commands a h.2) here.0 h.4) k.4 in
       (rest.0, h.5 ∙ (ap (λ zs. zs ++ h.2) here.1 ∙ (ap (λ zs. k.1 ++ zs) rest.1 ∙ sym k.5)))
 
-  -- what the first of the commands write is a front part of what all of them write
-  front_by : IsOne Turn → (n : ℕ) (s : S) (done left : List C) (mid last : S) (xs ys : List ℕ) → AreTurns Turn n s done mid xs → AreTurns Turn n s (done ++ left) last ys → (rest : List ℕ) × (ys ≡ xs ++ rest)
-  front_by one n s [] left mid last xs ys h k = (ys, ap (λ zs. zs ++ ys) (sym h.1))
-  front_by one n s (c ∷ done) left mid last xs ys h k =
+  -- what the first of the commands write is a prefix of what all of them write
+  prefix_by : IsOne Turn → (n : ℕ) (s : S) (done left : List C) (mid last : S) (xs ys : List ℕ) → AreTurns Turn n s done mid xs → AreTurns Turn n s (done ++ left) last ys → (rest : List ℕ) × (ys ≡ xs ++ rest)
+  prefix_by one n s [] left mid last xs ys h k = (ys, ap (λ zs. zs ++ ys) (sym h.1))
+  prefix_by one n s (c ∷ done) left mid last xs ys h k =
       let here = one n s c h.0 k.0 h.1 k.1 h.3 k.3 in
-      let more = front_by one (n + 1) k.0 done left mid last h.2 k.2 (subst (λ (x : S). AreTurns Turn (n + 1) x done mid h.2) here.0 h.4) k.4 in
+      let more = prefix_by one (n + 1) k.0 done left mid last h.2 k.2 (subst (λ (x : S). AreTurns Turn (n + 1) x done mid h.2) here.0 h.4) k.4 in
       (more.0, k.5 ∙ (ap (λ zs. zs ++ k.2) (sym here.1) ∙ (ap (λ zs. h.1 ++ zs) more.1 ∙ (sym (append_assoc h.1 h.2 more.0) ∙ ap (λ zs. zs ++ more.0) (sym h.5)))))
 
-  pub front_of_all : IsOne Turn → (s : S) (commands : List C) (last : S) (xs ys : List ℕ) → AreFirstTurns Turn s commands xs → AreTurns Turn 1 s commands last ys → (rest : List ℕ) × (ys ≡ xs ++ rest)
-  front_of_all one s commands last xs ys f k = front_by one 1 s f.done f.left f.last last xs ys f.turns (subst (λ cs. AreTurns Turn 1 s cs last ys) f.split k)
+  pub prefix_of_all : IsOne Turn → (s : S) (commands : List C) (last : S) (xs ys : List ℕ) → AreFirstTurns Turn s commands xs → AreTurns Turn 1 s commands last ys → (rest : List ℕ) × (ys ≡ xs ++ rest)
+  prefix_of_all one s commands last xs ys f k = prefix_by one 1 s f.done f.left f.last last xs ys f.turns (subst (λ cs. AreTurns Turn 1 s cs last ys) f.split k)

@@ -3,32 +3,32 @@ use Rattle.std.proofs.Common.{◌≡◌, ◌∙◌, ◌⊎◌, inl, inr, refl, s
 use Rattle.std.specs.Io.KnownBytes.{Appends, Keeps}
 use Rattle.std.proofs.KnownBytes.{Appends-nil, Appends-trans, Appends-kept}
 use Rattle.std.proofs.lemmas.List.{get_or-map, length-map, map-append, map_more}
-use Rattle.drc_io.specs.Causes.{Rose}
-use Rattle.drc_io.specs.Sinks.{AppendsFront, Writes}
+use Rattle.drc_io.specs.FaultCounts.{Rose}
+use Rattle.drc_io.specs.Sinks.{AppendsPrefix, Writes}
 use Rattle.drc_io.specs.declared.Failed.{Failed}
-use Rattle.drc_io.proofs.Writing.{AppendsFront-after}
+use Rattle.drc_io.proofs.Writing.{AppendsPrefix-after}
 use Rattle.pair_check.specs.PlainRow.{PlainRow}
 use Rattle.edit_script.specs.Commands.{PlainCommand}
 use Rattle.drc_state.specs.declared.error.EditError.{EditError}
 use Rattle.drc_state.specs.declared.error.EditError.TheVariants.{NoSuchItem, SharedName, PartOfFootprint, Item, Rules, Stopped, OutOfMemory as NoMemory}
 use Rattle.drc_state.specs.States.{State}
-use Rattle.drc_state.specs.Steps.{Answers}
+use Rattle.drc_state.specs.CommandSteps.{Answers}
 use Rattle.drc_session.specs.Sessions.{PlainSession, IsRefusedBy}
 use Rattle.drc_run.specs.declared.check.Break.{Break}
 use Rattle.drc_run.specs.declared.check.Break.TheVariants.{Unwritten}
 use Rattle.drc_run.specs.declared.status.Status.{Status}
 use Rattle.drc_run.specs.declared.status.Status.TheVariants.{WriteFault}
 use Rattle.drc_run.specs.Reports.{AreFindings, IsOpening, report_text, refused_line, why_edit}
-use Rattle.drc_run.specs.Turns.{AreTurns, IsTurn, refused}
+use Rattle.drc_run.specs.CommandOutputs.{AreTurns, IsTurn, refused}
 use Rattle.drc_run.specs.Output.{Output, status_of, IsStatusOf, IsToldBy, IsToldSoFarBy}
-use Rattle.drc_run.specs.Endings.{Whole, Front, Ends, number_of}
-use Rattle.drc_run.specs.Running.{found_of, IsTurnTaken, IsBroken, AreTaken, AreBroken, IsAnswered, IsEditAnswered, wanting, line, SoFar}
+use Rattle.drc_run.specs.RunEndings.{Whole, Prefix, Ends, number_of}
+use Rattle.drc_run.specs.RunResults.{found_of, IsTurnTaken, IsBroken, AreTaken, AreBroken, IsAnswered, IsEditAnswered, wanting, line, SoFar}
 use Rattle.drc_run.proofs.TurnLists.{one_more}
 use Rattle.drc_run.proofs.Written.{reporting}
 
 -- ---- one turn
 
--- its text was written, or a front part of that
+-- its text was written, or a prefix of that
 module _ {S C : Type 0} (Turn : ℕ → S → C → S → List ℕ → Type 0) (number : ℕ) (s : S) (command : C) (next : S) (old new : Option (List ℕ)) (m n : ℕ) (text : List ℕ) (turn : Turn number s command next text) where
   pub taken_by : (r : Result (Unit {0}) Failed) (b : Result (Unit {0}) Break) → MatchResult r (λ u. b ≡ Ok u) (λ _. b ≡ Err Unwritten) → Writes {T = Unit {0}} {E = Failed} old new m n text r
       → IfOk b (λ _. IsTurnTaken Turn number s command next old new)
@@ -41,7 +41,7 @@ module _ {S C : Type 0} (Turn : ℕ → S → C → S → List ℕ → Type 0) (
   broken_by (Err f) b e w =
       subst (λ (x : Result (Unit {0}) Break). IfErr x (λ _. Keeps old new ⊎ IsBroken Turn number s command old new)) (sym e) (inr (record { next = next; text = text; turn = turn; written = w.bytes }))
 
--- what is refused but for want of memory
+-- what is refused but for running out of memory
 refused_is : (old new : PlainSession) (command : PlainCommand) (why : EditError) → old.stopped ≡ false → (why ≡ NoMemory → ⊥) → IsRefusedBy old new command why → Answers old.state command (Err why) × (new ≡ old)
 refused_is old new command NoSuchItem runs n h = (h.1, h.2)
 refused_is old new command SharedName runs n h = (h.1, h.2)
@@ -130,7 +130,7 @@ module _ {S C : Type 0} (Turn : ℕ → S → C → S → List ℕ → Type 0) (
     stopped_before commands left split keeps = record {
       text = so.text;
       turns = record { done = done; left = left; split = split; last = now; turns = so.turns };
-      written = record { front = so.text; rest = []; whole = sym (append-nil so.text); appended = Appends-kept old mid new so.text so.written keeps };
+      written = record { prefix = so.text; rest = []; whole = sym (append-nil so.text); appended = Appends-kept old mid new so.text so.written keeps };
     }
 
     pub stopped_inside : (commands left : List C) (turn : ℕ) (command : C) → commands ≡ (done ++ command ∷ []) ++ left → turn ≡ number + 1 → IsBroken Turn turn now command mid new → AreBroken Turn s commands old new
@@ -143,7 +143,7 @@ module _ {S C : Type 0} (Turn : ℕ → S → C → S → List ℕ → Type 0) (
         last = broken.next;
         turns = one_more Turn 1 s done now so.text command broken.next broken.text so.turns (subst (λ (m : ℕ). Turn m now command broken.next broken.text) (next_number turn e) broken.turn);
       };
-      written = AppendsFront-after old mid new so.text broken.text so.written broken.written;
+      written = AppendsPrefix-after old mid new so.text broken.text so.written broken.written;
     }
 
   pub all_taken : (done commands : List C) (k number : ℕ) (now : S) (old new : Option (List ℕ)) (before faults : ℕ) → SoFar Turn s done k number now old new before faults → done ≡ commands → AreTaken Turn s commands now old new
@@ -194,16 +194,16 @@ module _ {S C : Type 0} (Turn : ℕ → S → C → S → List ℕ → Type 0) (
       reporting told told_so_far (λ _. ⊥) old new is_status.rows status is_status.status_is (subst (Whole told old new) is_status.status_is whole)
 
   -- it broke off behind the opening
-  pub told_front : Appends old mid first → AreBroken Turn start commands mid new → Front told_so_far old new
-  told_front w broken = inr (
+  pub told_prefix : Appends old mid first → AreBroken Turn start commands mid new → Prefix told_so_far old new
+  told_prefix w broken = inr (
     first ++ broken.text,
     record { first = first; first_is = is; rest = broken.text; turns = broken.turns; text_is = refl },
-    AppendsFront-after old mid new first broken.text w broken.written,
+    AppendsPrefix-after old mid new first broken.text w broken.written,
   )
 
   -- it broke off in the opening
-  pub first_front : AppendsFront old new first → Front told_so_far old new
-  first_front w = inr (
+  pub first_prefix : AppendsPrefix old new first → Prefix told_so_far old new
+  first_prefix w = inr (
     first,
     record {
       first = first;

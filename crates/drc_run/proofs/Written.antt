@@ -7,7 +7,7 @@ use Rattle.run_texts.specs.declared.texts.Which.{Which}
 use Rattle.drc_run.specs.declared.status.Status.{Status}
 use Rattle.drc_run.specs.declared.status.Status.TheVariants.{Clean, Rows, Usage, Refused, ReadFault, WriteFault, OutOfMemory}
 use Rattle.drc_run.specs.Output.{Output, cannot_read, status_of}
-use Rattle.drc_run.specs.Endings.{Whole, Front, Ends, IsTextOfOne, number_of}
+use Rattle.drc_run.specs.RunEndings.{Whole, Prefix, Ends, IsTextOfOne, number_of}
 
 module _ (IsIt : Output → Type 0) (IsBegun : List ℕ → Type 0) (Fault : Which → Type 0) (old new : Option (List ℕ)) where
   -- an output was written, and then the status is a given one
@@ -49,9 +49,9 @@ module _ (IsIt Other : Output → Type 0) (IsBegun OtherBegun : List ℕ → Typ
   whole_as : (status : ℕ) → Whole IsIt old new status → Whole Other old new status
   whole_as status w = (w.0, wider w.0 w.1, w.2, w.3)
 
-  front_as : Front IsBegun old new → Front OtherBegun old new
-  front_as (inl kept) = inl kept
-  front_as (inr w) = inr (w.0, begun w.0 w.1, w.2)
+  prefix_as : Prefix IsBegun old new → Prefix OtherBegun old new
+  prefix_as (inl kept) = inl kept
+  prefix_as (inr w) = inr (w.0, begun w.0 w.1, w.2)
 
   pub ends_as : (s : Status) → Ends IsIt IsBegun Fault old new s → Ends Other OtherBegun Cause old new s
   ends_as Clean w = whole_as 0 w
@@ -59,6 +59,6 @@ module _ (IsIt Other : Output → Type 0) (IsBegun OtherBegun : List ℕ → Typ
   ends_as Usage w = whole_as 2 w
   ends_as Refused w = whole_as 3 w
   ends_as ReadFault w = (w.0, cause w.0 w.1, w.2)
-  ends_as WriteFault (inl w) = inl (front_as w)
+  ends_as WriteFault (inl w) = inl (prefix_as w)
   ends_as WriteFault (inr w) = inr (w.0, cause w.0 w.1, w.2)
-  ends_as OutOfMemory w = front_as w
+  ends_as OutOfMemory w = prefix_as w

@@ -1,9 +1,9 @@
 pub mod CommandLine
 pub mod Reports
 pub mod Lines
-pub mod Turns
+pub mod CommandOutputs
 pub mod Output
-pub mod Endings
-pub mod Refusing
-pub mod Outlooks
-pub mod Running
+pub mod RunEndings
+pub mod RefusalLines
+pub mod TrialResults
+pub mod RunResults

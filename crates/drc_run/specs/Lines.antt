@@ -2,7 +2,7 @@
 use Rattle.std.specs.Prelude.{ℕ, List, [], ◌++◌, codes, decimal, Option, None, Some}
 use Rattle.plain_types.specs.declared.reason.Cause.{Cause}
 use Rattle.plain_types.specs.Reasons.{PlainReason, listed_causes}
-use Rattle.run_texts.specs.Texts.{reason_text}
+use Rattle.run_texts.specs.NamedTexts.{reason_text}
 use Rattle.drc_run.specs.declared.lines.Told.{Told}
 
 -- the piece before the place of a refusal
@@ -34,4 +34,4 @@ reason_told told = record { causes = listed_causes told.causes; place = told.pla
 
 -- the line of three texts and of why something is refused
 unfoldable pub reason_line : List ℕ → List ℕ → List ℕ → PlainReason → List ℕ
-reason_line front middle behind why = front ++ middle ++ behind ++ reason_text why ++ codes "\n"
+reason_line prefix middle behind why = prefix ++ middle ++ behind ++ reason_text why ++ codes "\n"

@@ -1,7 +1,7 @@
 -- The whole output of the program, as a relation between what is called for, the files of its shelf and what it writes.
 use Rattle.std.specs.Prelude.{◌≡◌, ℕ, ◌+◌, Bool, true, false, List, [], ◌∷◌, ◌++◌, Option, None, Some, Ok, codes, decimal, slice_get, ◌==◌, if◌then◌else◌}
 use Rattle.board_items.specs.Boards.{PlainBoard}
-use Rattle.net_class.specs.Classes.{PlainClasses, plain_classes}
+use Rattle.net_class.specs.NetClasses.{PlainClasses, plain_classes}
 use Rattle.rule_text.specs.RulesOf.{PlainRules, no_rules}
 use Rattle.pair_check.specs.PlainRow.{PlainRow}
 use Rattle.pair_check.specs.Rows.{AreRows}
@@ -9,16 +9,16 @@ use Rattle.drc_rows.specs.Report.{rows_text}
 use Rattle.drc_rows.specs.ReportOf.{first_line}
 use Rattle.edit_script.specs.Commands.{PlainCommand, PlainStep}
 use Rattle.pcb_read.specs.BoardText.{BoardSays}
-use Rattle.roundtrip_boards.specs.Same.{IsSame}
-use Rattle.board_write.specs.Answers.{Outcome}
+use Rattle.roundtrip_boards.specs.SameBoards.{IsSame}
+use Rattle.board_write.specs.WriteResults.{Outcome}
 use Rattle.drc_state.specs.States.{State, checked_in}
 use Rattle.undo_log.specs.Past.{Past, begun}
 use Rattle.what_if.specs.Trials.{IsSurvey}
 use Rattle.run_words.specs.Calls.{PlainSource, file, made, PlainCall, nothing, check, undo, try, steal, write}
 use Rattle.run_texts.specs.declared.texts.Which.{Which}
-use Rattle.run_texts.specs.Texts.{Named, texts_of, word_of, Value, a_board, a_project, a_rules, a_script, some_steps, refused, SourceSays, AreAccepted, IsReached, a_text}
+use Rattle.run_texts.specs.NamedTexts.{Named, texts_of, word_of, Value, a_board, a_project, a_rules, a_script, some_steps, refused, SourceSays, AreAccepted, IsReached, a_text}
 use Rattle.drc_run.specs.Reports.{IsOpening}
-use Rattle.drc_run.specs.Turns.{AreTurns, AreFirstTurns, IsTurn, IsStepTurn, IsTrial}
+use Rattle.drc_run.specs.CommandOutputs.{AreTurns, AreFirstTurns, IsTurn, IsStepTurn, IsTrial}
 
 -- a text, and the status with which the program ends once it is written
 pub record Output : Type 0 where

@@ -5,13 +5,13 @@ use Rattle.pair_check.specs.Rows.{AreRows}
 use Rattle.net_groups.specs.NetParts.{AreParts}
 use Rattle.drc_rows.specs.ReportOf.{Found, whole_report, short_report}
 use Rattle.drc_state.specs.declared.error.EditError.{EditError}
-use Rattle.drc_state.specs.Reasons.{edit_reason}
+use Rattle.drc_state.specs.CommandReasons.{edit_reason}
 use Rattle.drc_state.specs.States.{State, checked_in}
 use Rattle.drc_state.specs.Recheck.{IsHeldCount}
 use Rattle.undo_log.specs.declared.error.HistoryError.{HistoryError}
 use Rattle.undo_log.specs.declared.error.HistoryError.TheVariants.{Edit, NothingToUndo, NothingToRedo, Stopped, OutOfMemory}
-use Rattle.undo_log.specs.Reasons.{step_reason}
-use Rattle.run_texts.specs.Texts.{reason_text}
+use Rattle.undo_log.specs.HistoryReasons.{step_reason}
+use Rattle.run_texts.specs.NamedTexts.{reason_text}
 
 -- ---- reports
 

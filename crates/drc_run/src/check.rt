@@ -4,20 +4,20 @@ ghost use Rattle.std.specs.Prelude.{◌≡◌, ◌≤◌, ◌⊎◌, false, map,
 ghost use Rattle.std.specs.Prelude.{Ok, Err};
 ghost use Rattle.std.specs.Io.KnownBytes.{Keeps};
 ghost use Rattle.plain_types.specs.Limits.{IsInText, IsWorkerCount};
-ghost use Rattle.drc_io.specs.Causes.{Rose};
+ghost use Rattle.drc_io.specs.FaultCounts.{Rose};
 ghost use Rattle.edit_script.specs.Commands.{plain_command};
 ghost use Rattle.edit_script.specs.Fits.{Fits};
 ghost use Rattle.drc_state.specs.States.{checked_in};
 ghost use Rattle.drc_state.specs.Recheck.{IsHeldCount};
 ghost use Rattle.run_words.specs.Calls.{check};
-ghost use Rattle.run_words.specs.Views.{source_in, reading_in, RequestFits};
-ghost use Rattle.run_texts.specs.Views.{opened_in};
+ghost use Rattle.run_words.specs.CallValues.{source_in, reading_in, RequestFits};
+ghost use Rattle.run_texts.specs.OpenedValues.{opened_in};
 ghost use Rattle.drc_run.specs.declared.status.Status.{Status};
 ghost use Rattle.drc_run.specs.declared.check.Break.{Break};
-ghost use Rattle.drc_run.specs.Turns.{IsTurn};
-ghost use Rattle.drc_run.specs.Running.{IsEditAnswered, IsTurnTaken, IsBroken, AreTaken, AreBroken};
+ghost use Rattle.drc_run.specs.CommandOutputs.{IsTurn};
+ghost use Rattle.drc_run.specs.RunResults.{IsEditAnswered, IsTurnTaken, IsBroken, AreTaken, AreBroken};
 ghost use Rattle.drc_run.specs.Output.{IsTold, IsToldSoFar, is_short};
-ghost use Rattle.drc_run.specs.Endings.{Ends, EndsFor};
+ghost use Rattle.drc_run.specs.RunEndings.{Ends, EndsFor};
 
 use crate::lines::write_refused;
 use crate::reporting::write_report;
@@ -70,7 +70,7 @@ pub(crate) fn tiles_of(applied: &Applied) -> Tiles
     }
 }
 
-/// Writes the line of the command of this number, which is refused. Want of memory is not written.
+/// Writes the line of the command of this number, which is refused. Running out of memory is not written.
 fn refused<W: Sink>(number: u64, why: EditError, out: &mut W) -> Result<(), Break>
     ensures { IsEditAnswered number why (W.written out.old) (W.written out.new) (W.faults out.old)
         (W.faults out.new) result }

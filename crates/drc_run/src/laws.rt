@@ -33,8 +33,8 @@ pub fn one_output()
     one_outcome();
 }
 
-/// What the output begins with after some of the commands is a front part of it, where there is an output.
-pub fn begun_is_front()
+/// What the output begins with after some of the commands is a prefix of it, where there is an output.
+pub fn begun_is_prefix()
     ensures { (call : PlainCall) (files : List (List ℕ × List ℕ)) (text : List ℕ) (out : Output) →
         IsBegunFor call (Some files) text → IsOutputFor call (Some files) out → (rest : List ℕ) ×
         (out.text ≡ text ++ rest) }

@@ -2,11 +2,11 @@
 #![tactic(auto)]
 
 ghost use Rattle.std.specs.Prelude.{◌≡◌, ℕ, List, Option};
-ghost use Rattle.drc_io.specs.Causes.{Rose};
+ghost use Rattle.drc_io.specs.FaultCounts.{Rose};
 ghost use Rattle.run_words.specs.Calls.{check_call, call_of, words_of};
-ghost use Rattle.run_words.specs.Views.{call_in, CallFits};
+ghost use Rattle.run_words.specs.CallValues.{call_in, CallFits};
 ghost use Rattle.drc_run.specs.declared.status.Status.{Status};
-ghost use Rattle.drc_run.specs.Endings.{EndsFor, Promises};
+ghost use Rattle.drc_run.specs.RunEndings.{EndsFor, Promises};
 
 mod answering;
 mod check;
@@ -23,7 +23,7 @@ mod trials;
 mod undo;
 
 use crate::check::check;
-use crate::laws::{begun_is_front, one_output};
+use crate::laws::{begun_is_prefix, one_output};
 use crate::rewriting::rewrite;
 use crate::status::{Status, usage};
 use crate::stealing::steal;
@@ -80,9 +80,9 @@ pub fn run<R: Threads + Sync + AllocGlobal, F: Shelf, W: Sink, G: Gate>(
     // The files stay as they were.
     ensures same { F.files shelf.new ≡ F.files shelf.old }
 {
-    // What is written whole is the one output, and what is begun a front part of it.
+    // What is written whole is the one output, and what is begun a prefix of it.
     one_output();
-    begun_is_front();
+    begun_is_prefix();
     let status = match check_call(rt.alloc(), words) {
         Ok(call) => carry_out(rt, gate, call, shelf, out),
         Err(_) => Status::OutOfMemory,
@@ -122,7 +122,7 @@ pub fn run_all<R: Threads + Sync + AllocGlobal, F: Shelf, W: Sink, G: Gate>(
     ensures same { F.files shelf.new ≡ F.files shelf.old }
 {
     one_output();
-    begun_is_front();
+    begun_is_prefix();
     let status = match call_of(rt.alloc(), words) {
         Ok(call) => carry_out(rt, gate, call, shelf, out),
         Err(_) => Status::OutOfMemory,

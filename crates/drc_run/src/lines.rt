@@ -2,8 +2,8 @@
 
 ghost use Rattle.std.specs.Prelude.{◌≡◌, ◌++◌};
 ghost use Rattle.drc_io.specs.Sinks.{Wrote};
-ghost use Rattle.run_texts.specs.Texts.{reason_text};
-ghost use Rattle.run_texts.specs.Refusing.{plus_text, digits_text, reason_in, why_of};
+ghost use Rattle.run_texts.specs.NamedTexts.{reason_text};
+ghost use Rattle.run_texts.specs.RunFindings.{plus_text, digits_text, reason_in, why_of};
 ghost use Rattle.drc_run.specs.Output.{refusal, cannot_read};
 ghost use Rattle.drc_run.specs.Reports.{why_edit, why_step, step_told};
 ghost use Rattle.drc_run.specs.Reports.{refused_behind, refused_line, refused_trial};
@@ -142,7 +142,7 @@ fn inner_behind(place: Option<u32>, inner: Option<u32>) -> Option<u32>
 /// Writes a line: a text, a word, a number where there is one, a text, and why something is refused, as `NAME (NUMBER)`, behind that ` at PLACE` where there is
 /// a place, and for a condition ` + PLACE`. The names have points between them, and so have the numbers.
 fn write_reason<W: Sink>(
-    front: &'static [u8],
+    prefix: &'static [u8],
     word: &'static [u8],
     number: Option<u64>,
     behind: &'static [u8],
@@ -150,7 +150,8 @@ fn write_reason<W: Sink>(
     out: &mut W,
 ) -> Result<(), Failed>
     ensures { Wrote W.written W.faults out.old out.new
-        (reason_line front.now (word.now ++ digits_text number) behind.now (reason_told told)) result }
+        (reason_line prefix.now (word.now
+        ++ digits_text number) behind.now (reason_told told)) result }
 {
     let causes = told.causes;
     let inner = inner_behind(told.place, told.inner);
@@ -163,7 +164,7 @@ fn write_reason<W: Sink>(
     let mut digits_of_inner = Buffer::new();
     write_pieces(
         &[
-            front,
+            prefix,
             word,
             digits_of(number, &mut digits_of_number),
             behind,

@@ -8,7 +8,7 @@ ghost use Rattle.pair_check.specs.Rows.{IsRow, HasItems, HasSource};
 ghost use Rattle.drc_rows.specs.Buffer.{Buffered};
 ghost use Rattle.drc_rows.specs.Report.{row_line};
 ghost use Rattle.drc_state.specs.States.{checked_in};
-ghost use Rattle.drc_run.specs.Turns.{marked_lines};
+ghost use Rattle.drc_run.specs.CommandOutputs.{marked_lines};
 
 use drc_io::{Failed, Sink};
 use drc_rows::{ReportBuffer, push_rows};

@@ -4,7 +4,7 @@ ghost use Rattle.std.specs.Prelude.{◌≡◌, false};
 ghost use Rattle.board_items.specs.Boards.{IsSound};
 ghost use Rattle.drc_state.specs.States.{checked_in};
 ghost use Rattle.drc_state.specs.Recheck.{IsHeldCount};
-ghost use Rattle.drc_run.specs.Running.{IsReported};
+ghost use Rattle.drc_run.specs.RunResults.{IsReported};
 
 use board_items::Board;
 use drc_io::{Failed, Sink};
@@ -21,7 +21,7 @@ fn is_sound(board: &Board)
 }
 
 /// Writes the report of this number of a session that is not stopped, whole or short. `Failed` comes only where the sink's count of
-/// faults rose, and then a front part of the report was written. It takes no memory.
+/// faults rose, and then a prefix of the report was written. It takes no memory.
 pub(crate) fn write_report<W: Sink>(
     short: bool,
     number: u64,

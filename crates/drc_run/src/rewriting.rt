@@ -3,17 +3,17 @@
 
 ghost use Rattle.std.specs.Prelude.{◌≡◌, length, map, All, IfOk, MatchResult};
 ghost use Rattle.plain_types.specs.Limits.{IsInText, IsReadable};
-ghost use Rattle.drc_io.specs.Causes.{Rose};
+ghost use Rattle.drc_io.specs.FaultCounts.{Rose};
 ghost use Rattle.edit_script.specs.Commands.{plain_command};
 ghost use Rattle.edit_script.specs.Fits.{Fits, AreShallow};
 ghost use Rattle.board_write.specs.Sources.{IsSource};
 ghost use Rattle.run_words.specs.Calls.{write};
 ghost use Rattle.run_texts.specs.declared.texts.Which.{Which};
-ghost use Rattle.run_texts.specs.Texts.{a_text, accepted, ReaderSays};
-ghost use Rattle.run_texts.specs.Refusing.{StopsReading};
+ghost use Rattle.run_texts.specs.NamedTexts.{a_text, accepted, ReaderSays};
+ghost use Rattle.run_texts.specs.RunFindings.{StopsReading};
 ghost use Rattle.drc_run.specs.declared.status.Status.{Status};
 ghost use Rattle.drc_run.specs.Output.{IsBoardWritten, status_after};
-ghost use Rattle.drc_run.specs.Endings.{Ends, EndsFor, IsTextOfOne, number_of};
+ghost use Rattle.drc_run.specs.RunEndings.{Ends, EndsFor, IsTextOfOne, number_of};
 
 use crate::status::{Status, write_stop};
 use board_write::{SourceText, WriteError, read_source, write_source};

@@ -2,7 +2,7 @@
 
 ghost use Rattle.std.specs.Prelude.{◌≡◌, ◌<◌, ◌≤◌, [], Some, length, IfOk};
 ghost use Rattle.std.specs.Io.KnownBytes.{WriteAppends};
-ghost use Rattle.drc_io.specs.Causes.{HasCause};
+ghost use Rattle.drc_io.specs.FaultCounts.{HasCause};
 
 use drc_io::{Failed, Sink};
 use std::alloc::Global;

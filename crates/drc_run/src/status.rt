@@ -1,12 +1,12 @@
 //! How a run ends: its status, and the last line of one that has no report.
 
 ghost use Rattle.std.specs.Prelude.{◌≡◌, ℕ, List, false, Option, MatchResult};
-ghost use Rattle.drc_io.specs.Causes.{Rose};
+ghost use Rattle.drc_io.specs.FaultCounts.{Rose};
 ghost use Rattle.run_words.specs.Calls.{nothing};
 ghost use Rattle.drc_run.specs.declared.status.Status.{Status};
 ghost use Rattle.drc_run.specs.Output.{IsStatusOf};
-ghost use Rattle.drc_run.specs.Refusing.{IsLineOf};
-ghost use Rattle.drc_run.specs.Endings.{Ends, EndsFor, IsTextOfOne, number_of};
+ghost use Rattle.drc_run.specs.RefusalLines.{IsLineOf};
+ghost use Rattle.drc_run.specs.RunEndings.{Ends, EndsFor, IsTextOfOne, number_of};
 
 use crate::lines::{write_refusal, write_unread};
 use drc_io::{Failed, Sink, put_all};
@@ -52,7 +52,7 @@ pub(crate) fn usage<W: Sink>(line: &'static [u8], out: &mut W) -> Status
     after(put_all(out, line), Status::Usage)
 }
 
-/// Writes why there is no report. Want of memory is not written.
+/// Writes why there is no report. Running out of memory is not written.
 pub(crate) fn write_stop<W: Sink>(stop: Stop, out: &mut W) -> Status
     ensures ends { Ends (IsLineOf stop) (IsTextOfOne (IsLineOf stop))
         (λ which. stop ≡ Stop.Unread which) (W.written out.old) (W.written out.new) result }

@@ -2,12 +2,12 @@
 
 ghost use Rattle.std.specs.Prelude.{◌≡◌, []};
 ghost use Rattle.plain_types.specs.Limits.{IsWorkerCount};
-ghost use Rattle.drc_io.specs.Causes.{Rose};
+ghost use Rattle.drc_io.specs.FaultCounts.{Rose};
 ghost use Rattle.run_words.specs.Calls.{steal};
-ghost use Rattle.run_texts.specs.Views.{opened_in};
+ghost use Rattle.run_texts.specs.OpenedValues.{opened_in};
 ghost use Rattle.drc_run.specs.declared.status.Status.{Status};
 ghost use Rattle.drc_run.specs.Output.{AreRowsTold, status_of};
-ghost use Rattle.drc_run.specs.Endings.{Ends, EndsFor, IsTextOfOne, number_of};
+ghost use Rattle.drc_run.specs.RunEndings.{Ends, EndsFor, IsTextOfOne, number_of};
 
 use crate::status::{Status, after, write_stop};
 use drc_io::{Shelf, Sink};

@@ -5,12 +5,12 @@ ghost use Rattle.edit_script.specs.Commands.{PlainCommand, plain_command};
 ghost use Rattle.edit_script.specs.Fits.{Fits};
 ghost use Rattle.pair_check.specs.Rows.{IsRow};
 ghost use Rattle.drc_state.specs.States.{State, checked_in};
-ghost use Rattle.drc_state.specs.Steps.{Answers};
+ghost use Rattle.drc_state.specs.CommandSteps.{Answers};
 ghost use Rattle.what_if.specs.Trials.{IsDifference};
 ghost use Rattle.what_if.specs.Tried.{IsRefusedHere};
-ghost use Rattle.what_if.specs.Desks.{adds};
-ghost use Rattle.drc_run.specs.Turns.{marked_lines, or_some};
-ghost use Rattle.drc_run.specs.Outlooks.{IsGround, IsOutlook, IsStill};
+ghost use Rattle.what_if.specs.TrialScratches.{adds};
+ghost use Rattle.drc_run.specs.CommandOutputs.{marked_lines, or_some};
+ghost use Rattle.drc_run.specs.TrialResults.{IsTrialContext, IsTrialResult, IsStill};
 
 use crate::marked_rows::write_some;
 use crate::sinks::KeptText;
@@ -26,14 +26,14 @@ use what_if::{Taken, Trial, TrialError, is_turned_back, take, trial, turn_back};
 
 /// What commands are tried on beside a session: the rows that it has, and by how many workers, from 1 to 8.
 #[derive(Clone, Copy)]
-pub(crate) struct Ground<'a> {
+pub(crate) struct TrialContext<'a> {
     pub(crate) before: &'a [Row],
     pub(crate) workers: u32,
 }
 
 /// What a command would do.
 #[derive(Drop)]
-pub(crate) struct Outlook {
+pub(crate) struct TrialResult {
     /// The rows that would go.
     pub(crate) gone: Vec<Row>,
     /// The lines of the rows that would come, each behind `+ `.
@@ -74,16 +74,17 @@ fn told_of(
     session: &Session,
     come: &[Row],
     gone: Vec<Row>,
-) -> Result<Outlook, AllocError>
+) -> Result<TrialResult, AllocError>
     requires running { session.now.stopped ≡ false }
     requires rows { All (IsRow (checked_in session.now.state)) come.now }
     ensures { (s : State) (command : PlainCommand) → Answers s command (Ok session.now.state) →
-        IsDifference s session.now.state come.now gone.items → IfOk result (IsOutlook s command) }
+        IsDifference s session.now.state come.now gone.items
+        → IfOk result (IsTrialResult s command) }
 {
     let comes = is_some_row(come);
     let count = session.rows().len() as u64;
     let lines = lines_of(alloc, session, come)?;
-    Ok(Outlook {
+    Ok(TrialResult {
         gone,
         lines,
         comes,
@@ -92,46 +93,48 @@ fn told_of(
 }
 
 /// What the command would do, found out on the session itself, which is turned back.
-fn outlook_here<R: Threads + Sync + AllocGlobal, G: Gate>(
+fn trial_result_here<R: Threads + Sync + AllocGlobal, G: Gate>(
     rt: &R,
     gate: &G,
-    ground: Ground<'_>,
+    trial_context: TrialContext<'_>,
     command: &Command<'_>,
     session: &mut Session,
-) -> Result<Outlook, TrialError>
-    requires ground { IsGround session.old ground }
+) -> Result<TrialResult, TrialError>
+    requires trial_context { IsTrialContext session.old trial_context }
     requires fits { Fits (plain_command command.now) }
     requires none_added { adds (plain_command command.now) ≡ false }
     ensures still { OnOk result (IsStill session.old session.new) }
-    ensures outlook { IfOk result (IsOutlook session.old.state (plain_command command.now)) }
+    ensures trial_result { IfOk result (IsTrialResult session.old.state
+        (plain_command command.now)) }
     ensures refused { IfErr result (IsRefusedHere session.old session.new
         (plain_command command.now)) }
 {
     let Taken { come, gone, back } = take(
         session,
-        ground.before,
+        trial_context.before,
         rt,
-        ground.workers,
+        trial_context.workers,
         command,
         gate,
     )?;
-    let outlook = told_of(rt.alloc(), session, &come, gone)?;
-    turn_back(session, rt, ground.workers, back)?;
-    Ok(outlook)
+    let trial_result = told_of(rt.alloc(), session, &come, gone)?;
+    turn_back(session, rt, trial_context.workers, back)?;
+    Ok(trial_result)
 }
 
 /// What the command would do, found out on a copy.
-fn outlook_apart<R: Threads + Sync + AllocGlobal, G: Gate>(
+fn trial_result_apart<R: Threads + Sync + AllocGlobal, G: Gate>(
     rt: &R,
     gate: &G,
     workers: u32,
     command: &Command<'_>,
     session: &Session,
-) -> Result<Outlook, TrialError>
+) -> Result<TrialResult, TrialError>
     requires workers { (1 ≤ workers) × (workers ≤ 8) }
     requires running { session.now.stopped ≡ false }
     requires fits { Fits (plain_command command.now) }
-    ensures outlook { IfOk result (IsOutlook session.now.state (plain_command command.now)) }
+    ensures trial_result { IfOk result (IsTrialResult session.now.state
+        (plain_command command.now)) }
     ensures refused { IfErr result (IsRefusedHere session.now session.now
         (plain_command command.now)) }
 {
@@ -140,30 +143,31 @@ fn outlook_apart<R: Threads + Sync + AllocGlobal, G: Gate>(
         come,
         gone,
     } = trial(session, rt, workers, from_ref(command), gate)?;
-    let outlook = told_of(rt.alloc(), &then, &come, gone);
+    let trial_result = told_of(rt.alloc(), &then, &come, gone);
     drop(then);
-    Ok(outlook?)
+    Ok(trial_result?)
 }
 
 /// What the command would do to the session, which is at the end as it was: found out on the session itself where it can be turned back, and
 /// else on a copy. Where memory runs out nothing is known of the session.
-pub(crate) fn outlook_of<R: Threads + Sync + AllocGlobal, G: Gate>(
+pub(crate) fn trial_result_of<R: Threads + Sync + AllocGlobal, G: Gate>(
     rt: &R,
     gate: &G,
-    ground: Ground<'_>,
+    trial_context: TrialContext<'_>,
     command: &Command<'_>,
     session: &mut Session,
-) -> Result<Outlook, TrialError>
-    requires ground { IsGround session.old ground }
+) -> Result<TrialResult, TrialError>
+    requires trial_context { IsTrialContext session.old trial_context }
     requires fits { Fits (plain_command command.now) }
     ensures still { OnOk result (IsStill session.old session.new) }
-    ensures outlook { IfOk result (IsOutlook session.old.state (plain_command command.now)) }
+    ensures trial_result { IfOk result (IsTrialResult session.old.state
+        (plain_command command.now)) }
     ensures refused { IfErr result (IsRefusedHere session.old session.new
         (plain_command command.now)) }
 {
     if is_turned_back(command) {
-        outlook_here(rt, gate, ground, command, session)
+        trial_result_here(rt, gate, trial_context, command, session)
     } else {
-        outlook_apart(rt, gate, ground.workers, command, session)
+        trial_result_apart(rt, gate, trial_context.workers, command, session)
     }
 }

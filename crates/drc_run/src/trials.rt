@@ -4,7 +4,7 @@ ghost use Rattle.std.specs.Prelude.{◌≡◌, ◌≤◌, ◌<◌, ◌⊎◌, �
 ghost use Rattle.std.specs.List.{AllZip};
 ghost use Rattle.plain_types.specs.Limits.{IsInText, most_trials};
 ghost use Rattle.std.specs.Io.KnownBytes.{Keeps};
-ghost use Rattle.drc_io.specs.Causes.{Rose};
+ghost use Rattle.drc_io.specs.FaultCounts.{Rose};
 ghost use Rattle.drc_io.specs.Sinks.{Wrote};
 ghost use Rattle.edit_script.specs.Commands.{PlainCommand, plain_command};
 ghost use Rattle.edit_script.specs.Fits.{Fits};
@@ -12,20 +12,20 @@ ghost use Rattle.pair_check.specs.Rows.{IsRow, AreRows};
 ghost use Rattle.drc_state.specs.States.{State, checked_in};
 ghost use Rattle.what_if.specs.Trials.{IsCount, IsLeast, IsSurvey};
 ghost use Rattle.run_words.specs.Calls.{try};
-ghost use Rattle.run_texts.specs.Views.{opened_in};
+ghost use Rattle.run_texts.specs.OpenedValues.{opened_in};
 ghost use Rattle.drc_run.specs.declared.status.Status.{Status};
 ghost use Rattle.drc_run.specs.declared.check.Break.{Break};
-ghost use Rattle.drc_run.specs.Turns.{IsTrial};
+ghost use Rattle.drc_run.specs.CommandOutputs.{IsTrial};
 ghost use Rattle.drc_run.specs.Output.{AreTrialsTold};
-ghost use Rattle.drc_run.specs.Outlooks.{IsGround, outlook_text};
-ghost use Rattle.drc_run.specs.Running.{IsTurnTaken, IsBroken, AreTaken, AreBroken, IsLeastWritten, AreTrialsToldSoFar};
-ghost use Rattle.drc_run.specs.Endings.{Ends, EndsFor, trials_status};
+ghost use Rattle.drc_run.specs.TrialResults.{IsTrialContext, trial_result_text};
+ghost use Rattle.drc_run.specs.RunResults.{IsTurnTaken, IsBroken, AreTaken, AreBroken, IsLeastWritten, AreTrialsToldSoFar};
+ghost use Rattle.drc_run.specs.RunEndings.{Ends, EndsFor, trials_status};
 
 use crate::check::Break;
 use crate::lines::write_refused_trial;
 use crate::marked_rows::push_some;
 use crate::status::{Status, after, write_stop};
-use crate::trial_results::{Ground, Outlook, outlook_of};
+use crate::trial_results::{TrialContext, TrialResult, trial_result_of};
 use drc_io::{Failed, Shelf, Sink, put_all};
 use drc_rows::{ReportBuffer, push_line, write_pieces};
 use drc_session::Session;
@@ -41,24 +41,24 @@ use what_if::{Survey, TrialError, survey, survey_of};
 
 /// Writes what a command would do: the rows that would go, those that would come, and how many there would be. It goes
 /// out in as few writes as its length asks for.
-fn write_outlook<W: Sink>(
+fn write_trial_result<W: Sink>(
     number: u64,
     session: &Session,
-    outlook: &Outlook,
+    trial_result: &TrialResult,
     out: &mut W,
 ) -> Result<(), Failed>
     requires running { session.now.stopped ≡ false }
-    requires gone { All (IsRow (checked_in session.now.state)) outlook.now.gone.items }
+    requires gone { All (IsRow (checked_in session.now.state)) trial_result.now.gone.items }
     ensures { Wrote W.written W.faults out.old out.new
-        (outlook_text number session.now.state outlook.now) result }
+        (trial_result_text number session.now.state trial_result.now) result }
 {
-    let gone = outlook.gone.as_slice();
-    let lines = outlook.lines.as_slice();
+    let gone = trial_result.gone.as_slice();
+    let lines = trial_result.lines.as_slice();
     let mut buffer = ReportBuffer::new();
     push_line(&mut buffer, out, b"trial ", number, b"")?;
     push_some(&mut buffer, out, b"- ", session, gone)?;
     buffer.push(out, lines)?;
-    push_line(&mut buffer, out, b"rows ", outlook.count, b"")?;
+    push_line(&mut buffer, out, b"rows ", trial_result.count, b"")?;
     buffer.end(out)
 }
 
@@ -91,15 +91,15 @@ struct Numbered<'a> {
 fn turn<R: Threads + Sync + AllocGlobal, W: Sink, G: Gate>(
     rt: &R,
     gate: &G,
-    ground: Ground<'_>,
+    trial_context: TrialContext<'_>,
     numbered: Numbered<'_>,
     session: &mut Session,
     comes: &mut bool,
     out: &mut W,
 ) -> Result<Option<u64>, Break>
-    requires ground { IsGround session.old ground }
+    requires trial_context { IsTrialContext session.old trial_context }
     requires fits { Fits (plain_command numbered.command.now) }
-    ensures ground { OnOk result (IsGround session.new ground.entry) }
+    ensures trial_context { OnOk result (IsTrialContext session.new trial_context.entry) }
     ensures same { OnOk result (session.new.state ≡ session.old.state) }
     ensures taken { OnOk result (IsTurnTaken (IsTrial session.old.state) numbered.entry.number
         comes.old (plain_command numbered.entry.command.now) comes.new (W.written out.old)
@@ -113,11 +113,11 @@ fn turn<R: Threads + Sync + AllocGlobal, W: Sink, G: Gate>(
     ensures later { W.faults out.old ≤ W.faults out.new }
 {
     let Numbered { number, command } = numbered;
-    match outlook_of(rt, gate, ground, command, session) {
-        Ok(outlook) => {
-            *comes = either(*comes, outlook.comes);
-            let written = write_outlook(number, session, &outlook, out);
-            counted(written, Some(outlook.count))
+    match trial_result_of(rt, gate, trial_context, command, session) {
+        Ok(trial_result) => {
+            *comes = either(*comes, trial_result.comes);
+            let written = write_trial_result(number, session, &trial_result, out);
+            counted(written, Some(trial_result.count))
         }
         Err(TrialError::Refused { inner, .. }) => {
             counted(write_refused_trial(number, &inner, out), None)
@@ -130,13 +130,13 @@ fn turn<R: Threads + Sync + AllocGlobal, W: Sink, G: Gate>(
 fn turns<R: Threads + Sync + AllocGlobal, W: Sink, G: Gate>(
     rt: &R,
     gate: &G,
-    ground: Ground<'_>,
+    trial_context: TrialContext<'_>,
     commands: &[Command<'_>],
     session: &mut Session,
     counts: &mut Vec<Option<u64>>,
     out: &mut W,
 ) -> Result<bool, Break>
-    requires ground { IsGround session.old ground }
+    requires trial_context { IsTrialContext session.old trial_context }
     requires fit { All Fits (map plain_command commands.now) }
     requires none { counts.old.items ≡ [] }
     requires room { length commands.now ≤ vec_capacity counts.old }
@@ -156,7 +156,7 @@ fn turns<R: Threads + Sync + AllocGlobal, W: Sink, G: Gate>(
         let count = turn(
             rt,
             gate,
-            ground,
+            trial_context,
             Numbered { number, command },
             session,
             &mut comes,
@@ -257,12 +257,12 @@ fn status_of(comes: bool) -> Status
 fn go_through<R: Threads + Sync + AllocGlobal, W: Sink, G: Gate>(
     rt: &R,
     gate: &G,
-    ground: Ground<'_>,
+    trial_context: TrialContext<'_>,
     session: &mut Session,
     commands: &[Command<'_>],
     out: &mut W,
 ) -> Status
-    requires ground { IsGround session.old ground }
+    requires trial_context { IsTrialContext session.old trial_context }
     requires fit { All Fits (map plain_command commands.now) }
     requires few { length commands.now ≤ most_trials }
     ensures ends { Ends (AreTrialsTold session.old.state (map plain_command commands.now))
@@ -270,7 +270,7 @@ fn go_through<R: Threads + Sync + AllocGlobal, W: Sink, G: Gate>(
         (W.written out.old) (W.written out.new) result }
     ensures fault { result ≡ Status.WriteFault → Rose (W.faults out.old) (W.faults out.new) }
 {
-    let found = match surveyed(rt, gate, session, ground.workers, commands) {
+    let found = match surveyed(rt, gate, session, trial_context.workers, commands) {
         Ok(found) => found,
         Err(_) => return Status::OutOfMemory,
     };
@@ -278,7 +278,7 @@ fn go_through<R: Threads + Sync + AllocGlobal, W: Sink, G: Gate>(
         Ok(counts) => counts,
         Err(_) => return Status::OutOfMemory,
     };
-    match turns(rt, gate, ground, commands, session, &mut counts, out) {
+    match turns(rt, gate, trial_context, commands, session, &mut counts, out) {
         Ok(comes) => after(
             write_least(&survey_by(found, counts), out),
             status_of(comes),
@@ -318,11 +318,11 @@ fn tried<R: Threads + Sync + AllocGlobal, W: Sink, G: Gate>(
         Ok(rows) => rows,
         Err(_) => return Status::OutOfMemory,
     };
-    let ground = Ground {
+    let trial_context = TrialContext {
         before: &before,
         workers,
     };
-    go_through(rt, gate, ground, session, commands, out)
+    go_through(rt, gate, trial_context, session, commands, out)
 }
 
 /// Checks the board of the texts, tries each command on it, and writes what they would do.

@@ -2,22 +2,22 @@
 
 ghost use Rattle.std.specs.Prelude.{◌≡◌, ◌≤◌, false, length, map, All, IfOk, IfErr, Err};
 ghost use Rattle.plain_types.specs.Limits.{IsInText};
-ghost use Rattle.drc_io.specs.Causes.{Rose};
+ghost use Rattle.drc_io.specs.FaultCounts.{Rose};
 ghost use Rattle.edit_script.specs.Commands.{plain_step};
 ghost use Rattle.edit_script.specs.Fits.{StepFits};
 ghost use Rattle.drc_state.specs.States.{checked_in};
 ghost use Rattle.drc_state.specs.Recheck.{IsHeldCount};
 ghost use Rattle.undo_log.specs.Past.{Past, begun};
-ghost use Rattle.undo_log.specs.Taking.{IsTaken, IsRefused};
+ghost use Rattle.undo_log.specs.HistoryCalls.{IsHistoryStepTaken, IsStepRefused};
 ghost use Rattle.undo_log.specs.Ways.{IsPastOf};
 ghost use Rattle.run_words.specs.Calls.{undo};
-ghost use Rattle.run_texts.specs.Views.{opened_in};
+ghost use Rattle.run_texts.specs.OpenedValues.{opened_in};
 ghost use Rattle.drc_run.specs.declared.status.Status.{Status};
 ghost use Rattle.drc_run.specs.declared.check.Break.{Break};
-ghost use Rattle.drc_run.specs.Turns.{IsStepTurn};
-ghost use Rattle.drc_run.specs.Running.{IsStepAnswered, IsStepTaken, IsStepBroken, AreTaken, AreBroken};
+ghost use Rattle.drc_run.specs.CommandOutputs.{IsStepTurn};
+ghost use Rattle.drc_run.specs.RunResults.{IsStepAnswered, IsStepTaken, IsStepBroken, AreTaken, AreBroken};
 ghost use Rattle.drc_run.specs.Output.{AreStepsTold, AreStepsToldSoFar};
-ghost use Rattle.drc_run.specs.Endings.{Ends, EndsFor};
+ghost use Rattle.drc_run.specs.RunEndings.{Ends, EndsFor};
 
 use crate::check::{Break, tiles_of, told};
 use crate::lines::write_refused_step;
@@ -34,7 +34,7 @@ use std::thread::Threads;
 use tile_pool::Gate;
 use undo_log::{History, HistoryError};
 
-/// By how many workers the tiles that a step stirs are gone through.
+/// By how many workers the tiles that a step affects are gone through.
 const WORKERS: u32 = 1;
 
 /// Takes the step.
@@ -45,8 +45,8 @@ fn take<R: Threads + Sync + AllocGlobal, G: Gate>(
     history: &mut History,
 ) -> Result<Applied, HistoryError>
     requires fits { StepFits (plain_step step.now) }
-    ensures taken { IfOk result (IsTaken history.old history.new (plain_step step.now)) }
-    ensures refused { IfErr result (IsRefused history.old history.new (plain_step step.now)) }
+    ensures taken { IfOk result (IsHistoryStepTaken history.old history.new (plain_step step.now)) }
+    ensures refused { IfErr result (IsStepRefused history.old history.new (plain_step step.now)) }
 {
     match step {
         Step::Edit(command) => history.apply(rt, WORKERS, command, gate),
@@ -55,7 +55,7 @@ fn take<R: Threads + Sync + AllocGlobal, G: Gate>(
     }
 }
 
-/// Writes the line of the step of this number, which is refused. Want of memory is not written.
+/// Writes the line of the step of this number, which is refused. Running out of memory is not written.
 fn refused<W: Sink>(number: u64, why: HistoryError, out: &mut W) -> Result<(), Break>
     ensures { IsStepAnswered number why (W.written out.old) (W.written out.new) (W.faults out.old)
         (W.faults out.new) result }

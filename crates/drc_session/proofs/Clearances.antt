@@ -12,7 +12,7 @@ use Rattle.board_items.specs.Boards.{PlainBoard, item_at}
 use Rattle.board_index.proofs.OneList.{here, nothing, behind, cons_case}
 use Rattle.board_laws.specs.Edits.{IsEdit}
 use Rattle.board_laws.proofs.Rest.{rises, found_at, in_list}
-use Rattle.net_class.specs.Classes.{PlainClasses}
+use Rattle.net_class.specs.NetClasses.{PlainClasses}
 use Rattle.cond_lang.specs.Rules.{PlainRule}
 use Rattle.rule_pick.specs.Reach.{distances_of, clearances_of, least_distances, one_if, local_clearances, distances_asked, IsReach}
 use Rattle.drc_session.specs.Looks.{AsksNone, own_of, own_at, HasOwn, IsRaisedBy}

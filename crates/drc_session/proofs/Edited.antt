@@ -1,4 +1,4 @@
--- What is found anew after an edit, where the ids and the rules were lent.
+-- What is found again after an edit, where the ids and the rules were lent.
 use Rattle.std.proofs.Common.{◌≡◌, ◌∙◌, sym, subst, ℕ, ℤ, false, List, map, Option}
 use Rattle.int_algebra.proofs.Scalars.{passed}
 use Rattle.plain_types.specs.Lengths.{IsLength}
@@ -11,17 +11,17 @@ use Rattle.rule_pick.specs.declared.facts.Facts.{Facts}
 use Rattle.rule_pick.specs.AllFacts.{HasFacts}
 use Rattle.rule_pick.specs.Reach.{IsReach}
 use Rattle.box_index.specs.Tiles.{PlainIndex}
-use Rattle.board_index.specs.Holding.{IsIndexOfItems}
-use Rattle.row_check.specs.Tiles.{IsIndexOf}
+use Rattle.board_index.specs.IndexedItems.{IsIndexOfItems}
+use Rattle.row_check.specs.RowsOfTile.{IsIndexOf}
 use Rattle.net_groups.specs.NetParts.{PlainNetPart, AreParts}
-use Rattle.kept_facts.specs.Kept.{AreMarksBefore, AreChanged}
-use Rattle.board_edits.specs.Touched.{AreEdited, AreKnown}
+use Rattle.kept_facts.specs.FactUpdates.{AreMarksBefore, AreChanged}
+use Rattle.board_edits.specs.TouchedItems.{AreEdited, AreKnown}
 use Rattle.drc_state.specs.States.{checked_in}
 use Rattle.drc_session.specs.declared.parts.Parts.{Parts}
 use Rattle.drc_session.specs.declared.editing.Look.{Look}
-use Rattle.drc_session.specs.Holding.{state_with, IsKeptOf, IsKept}
+use Rattle.drc_session.specs.SessionContents.{state_with, IsKeptOf, IsKept}
 use Rattle.drc_session.specs.Looks.{HasNetsOf, AsksNone}
-use Rattle.drc_session.specs.Steps.{IsLook, IsEditedFrom}
+use Rattle.drc_session.specs.EditSteps.{IsLook, IsEditedFrom}
 use Rattle.drc_session.proofs.Clearances.{as_passed}
 use Rattle.drc_session.proofs.Known.{known_look}
 
@@ -33,25 +33,25 @@ module _ (old : Parts) (kept : IsKept old) (board : PlainBoard) (ids lent : List
   edit_of_lent : IsEdit old.board board lent
   edit_of_lent = subst (λ (k : List ℕ). IsEdit old.board board k) (sym same) edited.edit
 
-  pub facts_anew : (marks some : List (Option Item)) → some ≡ marks → AreMarksBefore old.board ids marks → (facts : List (Option Facts)) (changed : List ℕ)
+  pub facts_recomputed : (marks some : List (Option Item)) → some ≡ marks → AreMarksBefore old.board ids marks → (facts : List (Option Facts)) (changed : List ℕ)
       → ((was : PlainBoard) → IsEdit was board lent → AreMarksBefore was lent some → HasFacts was old.classes old.facts → HasFacts board old.classes facts × AreChanged was board old.classes lent old.facts facts changed)
       → HasFacts board old.classes facts × AreChanged old.board board old.classes ids old.facts facts changed
-  facts_anew marks some e before facts changed law =
+  facts_recomputed marks some e before facts changed law =
       let lent_marks = subst (λ (m : List (Option Item)). AreMarksBefore old.board lent m) (sym e) (subst (λ (k : List ℕ). AreMarksBefore old.board k marks) (sym same) before) in
       subst (λ (k : List ℕ). HasFacts board old.classes facts × AreChanged old.board board old.classes k old.facts facts changed) same (law old.board edit_of_lent lent_marks kept.facts)
 
-  pub nets_anew : (before after : List PlainNetPart) → before ≡ old.nets.items → (touched : List ℕ) → HasNetsOf old.board ids touched
+  pub nets_recomputed : (before after : List PlainNetPart) → before ≡ old.nets.items → (touched : List ℕ) → HasNetsOf old.board ids touched
       → ((was : PlainBoard) → IsEdit was board lent → HasNetsOf was lent touched → AreParts was before → AreParts board after) → AreParts board after
-  nets_anew before after e touched has law =
+  nets_recomputed before after e touched has law =
       law old.board edit_of_lent (subst (λ (k : List ℕ). HasNetsOf old.board k touched) (sym same) has) (subst (λ (n : List PlainNetPart). AreParts old.board n) (sym e) kept.nets)
 
-  pub items_anew : (index : PlainIndex) → ((was : PlainBoard) → IsEdit was board lent → IsIndexOfItems was old.index → IsIndexOfItems board index) → IsIndexOfItems board index
-  items_anew index law = law old.board edit_of_lent kept.index.items
+  pub items_recomputed : (index : PlainIndex) → ((was : PlainBoard) → IsEdit was board lent → IsIndexOfItems was old.index → IsIndexOfItems board index) → IsIndexOfItems board index
+  items_recomputed index law = law old.board edit_of_lent kept.index.items
 
-  pub reach_anew : (look : Look) (from : ℤ) → old.reach ≡ from → IsLook old.board ids from look → (lent_rules : List Rule) → lent_rules ≡ old.rules.rules → (reach : ℤ)
+  pub reach_recomputed : (look : Look) (from : ℤ) → old.reach ≡ from → IsLook old.board ids from look → (lent_rules : List Rule) → lent_rules ≡ old.rules.rules → (reach : ℤ)
       → ((was : PlainBoard) → IsEdit was board lent → (look.asked ≡ false → AsksNone was lent from) → IsReach was old.classes (map plain_rule lent_rules) from → IsReach board old.classes (map plain_rule lent_rules) reach)
       → IsReach board old.classes (map plain_rule old.rules.rules) reach
-  reach_anew look from e looked lent_rules rules reach law =
+  reach_recomputed look from e looked lent_rules rules reach law =
       let far = subst (λ (z : ℤ). IsReach old.board old.classes (map plain_rule old.rules.rules) z) (sym kept.reach ∙ e) kept.index.reach in
       let lent_far = subst (λ (q : List Rule). IsReach old.board old.classes (map plain_rule q) from) (sym rules) far in
       let asks : look.asked ≡ false → AsksNone old.board lent from = λ f. subst (λ (k : List ℕ). AsksNone old.board k from) (sym same) (looked.asks f) in

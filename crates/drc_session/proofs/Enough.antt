@@ -11,7 +11,7 @@ use Rattle.box_index.specs.Tiles.{PlainIndex, margin, meets_tile, is_in, is_held
 use Rattle.board_index.proofs.Numbers.{all_rise, has_number}
 use Rattle.board_laws.proofs.Rest.{contains_filter}
 use Rattle.pair_check.specs.Rows.{Checked}
-use Rattle.row_check.specs.Tiles.{IsIndexOf}
+use Rattle.row_check.specs.RowsOfTile.{IsIndexOf}
 use Rattle.row_check.specs.Whole.{AreEnough}
 use Rattle.drc_session.specs.Looks.{AreBoxesIn}
 

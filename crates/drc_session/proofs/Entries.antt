@@ -1,4 +1,4 @@
--- An index whose entries of some ids are found anew.
+-- An index whose entries of some ids are found again.
 use Rattle.std.proofs.Common.{◌≡◌, ◌≢◌, ◌⊎◌, inl, inr, refl, sym, ap, subst, ◌∙◌, ℕ, ◌+◌, ◌<◌, Bool, true, false, not, ◌==◌, nat_lt, List, [], ◌∷◌, ◌++◌, length, get_or, take, filter, Contains, Option, None, Some, arith, eq-eqb, true≢false}
 use Rattle.std.proofs.lemmas.Bool.{ne_eqb, lt-ltb}
 use Rattle.std.proofs.lemmas.List.{get_or_default}
@@ -7,14 +7,14 @@ use Rattle.geo_seg.specs.declared.boxes.Bounds.{Bounds}
 use Rattle.board_items.specs.declared.item.Item.{Item}
 use Rattle.board_items.specs.Boards.{PlainBoard, item_at}
 use Rattle.board_items.specs.Extents.{AreBoundsOf}
-use Rattle.board_items.specs.Parts.{parts_of}
+use Rattle.board_items.specs.ItemParts.{parts_of}
 use Rattle.box_index.specs.declared.entry.Entry.{Entry}
 use Rattle.box_index.specs.Tiles.{PlainIndex, IsAbsent, placed, without}
-use Rattle.board_index.specs.Holding.{IsEntryOf, HasEntry, IsIndexOfItems}
+use Rattle.board_index.specs.IndexedItems.{IsEntryOf, HasEntry, IsIndexOfItems}
 use Rattle.board_index.proofs.OneList.{here, cons_case, behind}
 use Rattle.board_laws.specs.Edits.{IsEdit, is_one_of}
 use Rattle.board_laws.proofs.Rest.{one_of, is_there, contains_filter, source, passed}
-use Rattle.drc_session.specs.Looks.{IsBoxAt, IsRenewed}
+use Rattle.drc_session.specs.Looks.{IsBoxAt, IsUpdated}
 use Rattle.drc_session.proofs.Looked.{alone, seen, is_entry, no_parts}
 
 -- an id is among them or not
@@ -90,7 +90,7 @@ module _ (board : PlainBoard) (id : ℕ) (found : Option Bounds) (h : IsBoxAt bo
   another : (x : Entry) → Contains (without id old.entries) x → (¬ (Contains (id ∷ []) x.id)) × Contains old.entries x
   another x c = ((λ d. out_without id old.entries x c (sym (alone id x.id d))), from_without id old.entries x c)
 
-  gone : found ≡ None → IsRenewed board (id ∷ []) old (record old { entries = without id old.entries })
+  gone : found ≡ None → IsUpdated board (id ∷ []) old (record old { entries = without id old.entries })
   gone e = record {
     only = λ x c. inr (another x c);
     holds = λ one item c at some. absurd (some (no_parts board id found h item (subst (λ (n : ℕ). item_at board.items n ≡ Some item) (sym (alone id one c)) at) e));
@@ -114,7 +114,7 @@ module _ (board : PlainBoard) (id : ℕ) (found : Option Bounds) (h : IsBoxAt bo
     has_at : (other : ℕ) (item : Item) → id ≡ other → item_at board.items other ≡ Some item → HasEntry put other item
     has_at other item same at = subst (λ (n : ℕ). HasEntry put n item) same (has item (subst (λ (n : ℕ). item_at board.items n ≡ Some item) (sym same) at))
 
-    is_put : IsRenewed board (id ∷ []) old put
+    is_put : IsUpdated board (id ∷ []) old put
     is_put = record {
       only = λ x c. only x (placed_cases one (without id old.entries) x c);
       holds = λ other item c at some. has_at other item (alone id other c) at;
@@ -122,19 +122,19 @@ module _ (board : PlainBoard) (id : ℕ) (found : Option Bounds) (h : IsBoxAt bo
     }
 
 -- nothing stands under the id
-pub renewed_gone : (board : PlainBoard) (id : ℕ) (old new : PlainIndex) → IsBoxAt board id None → new ≡ record old { entries = without id old.entries } → IsRenewed board (id ∷ []) old new
-renewed_gone board id old new h is = subst (IsRenewed board (id ∷ []) old) (sym is) (gone board id None h old refl)
+pub updated_gone : (board : PlainBoard) (id : ℕ) (old new : PlainIndex) → IsBoxAt board id None → new ≡ record old { entries = without id old.entries } → IsUpdated board (id ∷ []) old new
+updated_gone board id old new h is = subst (IsUpdated board (id ∷ []) old) (sym is) (gone board id None h old refl)
 
 -- its item's entry is put in
-pub renewed_put : (board : PlainBoard) (id : ℕ) (box : Bounds) (old mid new : PlainIndex) → IsBoxAt board id (Some box) → mid ≡ record old { entries = without id old.entries }
-    → new ≡ record mid { entries = placed (record { id = id; bounds = box }) mid.entries } → IsRenewed board (id ∷ []) old new
-renewed_put board id box old mid new h cut is =
-    subst (IsRenewed board (id ∷ []) old) (sym (is ∙ ap (λ (index : PlainIndex). record index { entries = placed (record { id = id; bounds = box }) index.entries }) cut)) (is_put board id (Some box) h old box refl)
+pub updated_put : (board : PlainBoard) (id : ℕ) (box : Bounds) (old mid new : PlainIndex) → IsBoxAt board id (Some box) → mid ≡ record old { entries = without id old.entries }
+    → new ≡ record mid { entries = placed (record { id = id; bounds = box }) mid.entries } → IsUpdated board (id ∷ []) old new
+updated_put board id box old mid new h cut is =
+    subst (IsUpdated board (id ∷ []) old) (sym (is ∙ ap (λ (index : PlainIndex). record index { entries = placed (record { id = id; bounds = box }) index.entries }) cut)) (is_put board id (Some box) h old box refl)
 
 -- ---- several ids
 
 module _ (board : PlainBoard) where
-  module _ (xs ys : List ℕ) (old mid new : PlainIndex) (h : IsRenewed board xs old mid) (k : IsRenewed board ys mid new) where
+  module _ (xs ys : List ℕ) (old mid new : PlainIndex) (h : IsUpdated board xs old mid) (k : IsUpdated board ys mid new) where
     neither : (id : ℕ) → ¬ (Contains xs id) → ¬ (Contains ys id) → Contains xs id ⊎ Contains ys id → ⊥
     neither id a b (inl c) = a c
     neither id a b (inr c) = b c
@@ -157,20 +157,20 @@ module _ (board : PlainBoard) where
     holds_both id item at some (inr out) (inl c) = stays id item out (h.holds id item c at some)
     holds_both id item at some (inr out) (inr c) = absurd (out c)
 
-    renewed_joined : IsRenewed board (xs ++ ys) old new
-    renewed_joined = record {
+    updated_joined : IsUpdated board (xs ++ ys) old new
+    updated_joined = record {
       only = λ x c. only_both x (k.only x c);
       holds = λ id item c at some. holds_both id item at some (among ys id) (Contains-append_cases xs ys id c);
       kept = λ x out c. k.kept x (λ d. out (Contains-append_right xs ys x.id d)) (h.kept x (λ d. out (Contains-append_left xs ys x.id d)) c);
     }
 
-  pub renewed_more : (ids : List ℕ) (i d : ℕ) (old mid new : PlainIndex) → i < length ids → IsRenewed board (take i ids) old mid → IsRenewed board (get_or ids i d ∷ []) mid new → IsRenewed board (take (i + 1) ids) old new
-  renewed_more ids i d old mid new lt h k =
-      let id = get_or ids i d in subst (λ (l : List ℕ). IsRenewed board l old new) (seen ids i id lt (get_or_default ids i d id lt)) (renewed_joined (take i ids) (id ∷ []) old mid new h k)
+  pub updated_more : (ids : List ℕ) (i d : ℕ) (old mid new : PlainIndex) → i < length ids → IsUpdated board (take i ids) old mid → IsUpdated board (get_or ids i d ∷ []) mid new → IsUpdated board (take (i + 1) ids) old new
+  updated_more ids i d old mid new lt h k =
+      let id = get_or ids i d in subst (λ (l : List ℕ). IsUpdated board l old new) (seen ids i id lt (get_or_default ids i d id lt)) (updated_joined (take i ids) (id ∷ []) old mid new h k)
 
 -- ---- after an edit
 
-module _ (old new : PlainBoard) (ids : List ℕ) (edit : IsEdit old new ids) (before now : PlainIndex) (is : IsIndexOfItems old before) (r : IsRenewed new ids before now) where
+module _ (old new : PlainBoard) (ids : List ℕ) (edit : IsEdit old new ids) (before now : PlainIndex) (is : IsIndexOfItems old before) (r : IsUpdated new ids before now) where
   only_new : (x : Entry) → (Contains ids x.id × IsEntryOf new x) ⊎ ((¬ (Contains ids x.id)) × Contains before.entries x) → IsEntryOf new x
   only_new x (inl a) = a.1
   only_new x (inr a) = let own = is.only x a.1 in record { item = own.item; stands = edit.rest x.id a.0 ∙ own.stands; own = own.own }
@@ -180,5 +180,5 @@ module _ (old new : PlainBoard) (ids : List ℕ) (edit : IsEdit old new ids) (be
   each_new id item at some (inr out) =
       let has = is.holds.each id item (sym (edit.rest id out) ∙ at) some in record { bounds = has.bounds; own = has.own; entry = r.kept (record { id = id; bounds = has.bounds }) out has.entry }
 
-  pub renewed_index : IsIndexOfItems new now
-  renewed_index = record { only = λ x c. only_new x (r.only x c); holds = record { each = λ id item at some. each_new id item at some (among ids id) } }
+  pub updated_index : IsIndexOfItems new now
+  updated_index = record { only = λ x c. only_new x (r.only x c); holds = record { each = λ id item at some. each_new id item at some (among ids id) } }

@@ -3,19 +3,19 @@ use Rattle.std.proofs.Common.{◌≡◌, sym, subst, ℕ, ◌<◌, ℤ, List, le
 use Rattle.std.proofs.lemmas.List.{length-map}
 use Rattle.plain_types.specs.Lengths.{IsLength}
 use Rattle.board_items.specs.Boards.{PlainBoard}
-use Rattle.net_class.specs.Classes.{PlainClasses}
+use Rattle.net_class.specs.NetClasses.{PlainClasses}
 use Rattle.cond_lang.specs.Rules.{plain_rule}
 use Rattle.rule_text.specs.RulesOf.{PlainRules}
-use Rattle.rule_text.specs.Views.{plain_rules}
+use Rattle.rule_text.specs.RuleValues.{plain_rules}
 use Rattle.rule_pick.specs.declared.facts.Facts.{Facts}
 use Rattle.rule_pick.specs.AllFacts.{HasFacts}
 use Rattle.box_index.specs.Tiles.{PlainIndex}
 use Rattle.pair_check.specs.PlainRow.{PlainRow}
 use Rattle.pair_check.specs.Rows.{AreRows}
-use Rattle.row_check.specs.Tiles.{IsIndexOf}
+use Rattle.row_check.specs.RowsOfTile.{IsIndexOf}
 use Rattle.net_groups.specs.NetParts.{PlainNetPart, AreParts}
 use Rattle.drc_session.specs.declared.parts.Parts.{Parts}
-use Rattle.drc_session.specs.Holding.{IsKept}
+use Rattle.drc_session.specs.SessionContents.{IsKept}
 
 record IsWholeOf (board : PlainBoard) (classes : PlainClasses) (rules : PlainRules) (facts : List (Option Facts)) (reach : ℤ) (index : PlainIndex) (rows : List PlainRow) (nets : List PlainNetPart) : Type 0 where
   facts_are : HasFacts board classes facts

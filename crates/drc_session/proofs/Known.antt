@@ -5,12 +5,12 @@ use Rattle.board_index.proofs.OneList.{nothing}
 use Rattle.board_items.specs.declared.item.Item.{Item}
 use Rattle.board_items.specs.Boards.{PlainBoard, item_at}
 use Rattle.board_laws.specs.Edits.{WasOrIs}
-use Rattle.kept_facts.specs.Kept.{mark_of, mark_at, mark_if}
-use Rattle.kept_nets.specs.Touched.{AreTouched}
-use Rattle.board_edits.specs.Touched.{AreKnown, touched_before, brought}
+use Rattle.kept_facts.specs.FactUpdates.{mark_of, mark_at, mark_if}
+use Rattle.kept_nets.specs.TouchedNets.{AreTouched}
+use Rattle.board_edits.specs.TouchedItems.{AreKnown, touched_before, brought}
 use Rattle.drc_session.specs.declared.editing.Look.{Look}
 use Rattle.drc_session.specs.Looks.{HasNetsOf}
-use Rattle.drc_session.specs.Steps.{IsLook}
+use Rattle.drc_session.specs.EditSteps.{IsLook}
 
 missing : (item : Item) → None ≡ Some item → ⊥
 missing item e = cc

@@ -1,7 +1,7 @@
 pub mod Looked
 pub mod Entries
 pub mod Clearances
-pub mod Stirring
+pub mod EditEffect
 pub mod Enough
 pub mod Known
 pub mod Settled

@@ -6,9 +6,9 @@ use Rattle.geo_seg.specs.declared.boxes.Bounds.{Bounds}
 use Rattle.board_items.specs.declared.item.Item.{Item}
 use Rattle.board_items.specs.Boards.{PlainBoard, item_at}
 use Rattle.board_items.specs.Extents.{AreBoundsOf}
-use Rattle.board_items.specs.Parts.{parts_of}
+use Rattle.board_items.specs.ItemParts.{parts_of}
 use Rattle.box_index.specs.declared.entry.Entry.{Entry}
-use Rattle.board_index.specs.Holding.{IsEntryOf}
+use Rattle.board_index.specs.IndexedItems.{IsEntryOf}
 use Rattle.board_index.proofs.Bounds.{one_box, has_parts, no_box}
 use Rattle.board_index.proofs.OneList.{here, nothing, cons_case}
 use Rattle.drc_session.specs.Looks.{IsBoxAt, AreBoxesIn, HasNetsOf}

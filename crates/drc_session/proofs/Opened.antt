@@ -1,15 +1,15 @@
 -- The index of a board that is opened, where the rules were lent.
 use Rattle.std.proofs.Common.{◌≡◌, sym, subst, ℤ, List, map}
 use Rattle.board_items.specs.Boards.{PlainBoard}
-use Rattle.net_class.specs.Classes.{PlainClasses}
+use Rattle.net_class.specs.NetClasses.{PlainClasses}
 use Rattle.cond_lang.specs.declared.constraints.Rule.{Rule}
 use Rattle.cond_lang.specs.Rules.{plain_rule}
 use Rattle.rule_pick.specs.Reach.{IsReach}
 use Rattle.box_index.specs.Tiles.{PlainIndex}
-use Rattle.board_index.specs.Holding.{IsIndexOfItems}
+use Rattle.board_index.specs.IndexedItems.{IsIndexOfItems}
 use Rattle.pair_check.specs.PlainRow.{PlainRow}
 use Rattle.pair_check.specs.Rows.{Checked, AreRows}
-use Rattle.row_check.specs.Tiles.{IsIndexOf}
+use Rattle.row_check.specs.RowsOfTile.{IsIndexOf}
 
 module _ (board : PlainBoard) (classes : PlainClasses) where
   abbrev checked : List Rule → Checked

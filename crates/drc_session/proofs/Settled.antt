@@ -2,25 +2,25 @@
 use Rattle.std.proofs.Common.{◌≡◌, ◌≢◌, ◌⊎◌, inr, refl, sym, subst, ap, ◌∙◌, ℕ, ℤ, Bool, true, false, List, [], ◌++◌, length, Option}
 use Rattle.geo_seg.specs.declared.boxes.Bounds.{Bounds}
 use Rattle.board_items.specs.Boards.{PlainBoard}
-use Rattle.net_class.specs.Classes.{PlainClasses}
+use Rattle.net_class.specs.NetClasses.{PlainClasses}
 use Rattle.rule_text.specs.RulesOf.{PlainRules}
 use Rattle.rule_pick.specs.declared.facts.Facts.{Facts}
 use Rattle.rule_pick.specs.AllFacts.{HasFacts}
 use Rattle.box_index.specs.Tiles.{PlainIndex, dirty_of, held_of}
 use Rattle.board_index.specs.TilesHeld.{AreTilesHeld}
 use Rattle.board_index.proofs.Held.{all_held, all_dirty, dirty_is_held}
-use Rattle.row_check.specs.Tiles.{IsIndexOf}
-use Rattle.kept_facts.specs.Kept.{AreChanged}
-use Rattle.board_edits.specs.Touched.{AreEdited}
+use Rattle.row_check.specs.RowsOfTile.{IsIndexOf}
+use Rattle.kept_facts.specs.FactUpdates.{AreChanged}
+use Rattle.board_edits.specs.TouchedItems.{AreEdited}
 use Rattle.drc_state.specs.States.{State, checked_in}
 use Rattle.drc_state.specs.Recheck.{IsFarthest, ReachDiffers, AreRechecked, IsHeldCount}
-use Rattle.drc_state.specs.Boxes.{AreBoxesOf}
+use Rattle.drc_state.specs.DirtyBoxes.{AreBoxesOf}
 use Rattle.drc_state.proofs.FoundTiles.{all_tiles, near_tiles}
 use Rattle.drc_session.specs.declared.applied.Applied.{Applied}
 use Rattle.drc_session.specs.Looks.{AreBoxesIn}
 use Rattle.drc_session.specs.Sessions.{IsOpened, IsApplied}
-use Rattle.drc_session.specs.Steps.{AreTilesNear}
-use Rattle.drc_session.proofs.Stirring.{boxes_of}
+use Rattle.drc_session.specs.EditSteps.{AreTilesNear}
+use Rattle.drc_session.proofs.EditEffect.{boxes_of}
 
 module _ (new : State) (index : PlainIndex) (is : IsIndexOf (checked_in new) index) (applied : Applied) (held : applied.held ≡ length (held_of index)) where
   held_count : IsHeldCount (checked_in new) applied.held

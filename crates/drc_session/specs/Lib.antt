@@ -1,4 +1,4 @@
 pub mod Sessions
-pub mod Holding
+pub mod SessionContents
 pub mod Looks
-pub mod Steps
+pub mod EditSteps

@@ -4,15 +4,15 @@ use Rattle.geo_seg.specs.declared.boxes.Bounds.{Bounds}
 use Rattle.board_items.specs.declared.item.Item.{Item}
 use Rattle.board_items.specs.Boards.{PlainBoard, item_at}
 use Rattle.board_items.specs.Extents.{AreBoundsOf}
-use Rattle.board_items.specs.Parts.{parts_of}
+use Rattle.board_items.specs.ItemParts.{parts_of}
 use Rattle.box_index.specs.declared.entry.Entry.{Entry}
 use Rattle.box_index.specs.Tiles.{PlainIndex}
-use Rattle.net_class.specs.Classes.{PlainClasses}
-use Rattle.board_index.specs.Holding.{IsEntryOf, HasEntry}
-use Rattle.board_edits.specs.Touched.{AreEdited}
+use Rattle.net_class.specs.NetClasses.{PlainClasses}
+use Rattle.board_index.specs.IndexedItems.{IsEntryOf, HasEntry}
+use Rattle.board_edits.specs.TouchedItems.{AreEdited}
 use Rattle.rule_pick.specs.declared.facts.Facts.{Facts}
 use Rattle.rule_pick.specs.AllFacts.{HasFacts}
-use Rattle.kept_facts.specs.Kept.{AreChanged}
+use Rattle.kept_facts.specs.FactUpdates.{AreChanged}
 
 -- ---- boxes
 
@@ -27,7 +27,7 @@ pub record AreBoxesIn (board : PlainBoard) (ids : List ℕ) (boxes : List Bounds
   pub all : (entry : Entry) → Contains ids entry.id → IsEntryOf board entry → Contains boxes entry.bounds
 
 -- the entries of these ids are those of the board's items, and all others are as they were
-pub record IsRenewed (board : PlainBoard) (ids : List ℕ) (old new : PlainIndex) : Type 0 where
+pub record IsUpdated (board : PlainBoard) (ids : List ℕ) (old new : PlainIndex) : Type 0 where
   pub only : (entry : Entry) → Contains new.entries entry → (Contains ids entry.id × IsEntryOf board entry) ⊎ ((¬ (Contains ids entry.id)) × Contains old.entries entry)
   pub holds : (id : ℕ) (item : Item) → Contains ids id → item_at board.items id ≡ Some item → parts_of item ≢ [] → HasEntry new id item
   pub kept : (entry : Entry) → ¬ (Contains ids entry.id) → Contains old.entries entry → Contains new.entries entry

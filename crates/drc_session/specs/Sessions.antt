@@ -1,7 +1,7 @@
--- A session as contracts see it: a state, its rows and its nets, and whether want of memory stopped it. Of a stopped session nothing
+-- A session as contracts see it: a state, its rows and its nets, and whether running out of memory stopped it. Of a stopped session nothing
 -- else is known.
 use Rattle.std.specs.Prelude.{◌≡◌, ℕ, Bool, true, false, List, length, Ok, Err}
-use Rattle.claim_board.specs.Views.{dealt_tiles, dealt_seats}
+use Rattle.claim_board.specs.DealViews.{dealt_tiles, dealt_seats}
 use Rattle.edit_script.specs.Commands.{PlainCommand}
 use Rattle.pair_check.specs.PlainRow.{PlainRow}
 use Rattle.pair_check.specs.Rows.{AreRows}
@@ -9,8 +9,8 @@ use Rattle.net_groups.specs.NetParts.{PlainNetPart, AreParts}
 use Rattle.drc_state.specs.declared.error.EditError.{EditError}
 use Rattle.drc_state.specs.declared.error.EditError.TheVariants.{Stopped, OutOfMemory}
 use Rattle.drc_state.specs.States.{State, checked_in}
-use Rattle.drc_state.specs.Steps.{is_rules, Answers}
-use Rattle.drc_state.specs.Changes.{PlainChange, is_replace, Makes}
+use Rattle.drc_state.specs.CommandSteps.{is_rules, Answers}
+use Rattle.drc_state.specs.StateChanges.{PlainChange, is_replace, Makes}
 use Rattle.drc_state.specs.Recheck.{AreHeld, AreRechecked, IsHeldCount}
 use Rattle.drc_session.specs.declared.applied.Applied.{Applied}
 
@@ -35,7 +35,7 @@ pub record IsOpened (state : State) (applied : Applied) : Type 0 where
   pub tiles : AreHeld (checked_in state) applied.tiles.items
   pub held : applied.held ≡ length applied.tiles.items
 
--- after a change those that it stirred, or all of them
+-- after a change those that it affected, or all of them
 pub record IsApplied (old new : State) (replaced : Bool) (applied : Applied) : Type 0 where
   pub tiles : AreRechecked (checked_in old) (checked_in new) replaced applied.tiles.items
   pub held : IsHeldCount (checked_in new) applied.held

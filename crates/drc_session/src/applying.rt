@@ -4,11 +4,11 @@ ghost use Rattle.std.specs.Prelude.{◌≡◌, ◌<◌, true, false, OnOk, IfOk,
 ghost use Rattle.plain_types.specs.Limits.{IsWorkerCount};
 ghost use Rattle.edit_script.specs.Commands.{plain_command};
 ghost use Rattle.edit_script.specs.Fits.{Fits};
-ghost use Rattle.drc_state.specs.Steps.{is_rules};
-ghost use Rattle.board_edits.specs.Deeds.{GivesNoItem};
-ghost use Rattle.drc_state.specs.Changes.{plain_change, plain_edit, is_replace, no_change, ChangesNothing, Makes, ChangeFits, LeadsBack};
+ghost use Rattle.drc_state.specs.CommandSteps.{is_rules};
+ghost use Rattle.board_edits.specs.Operations.{GivesNoItem};
+ghost use Rattle.drc_state.specs.StateChanges.{plain_change, plain_edit, is_replace, no_change, ChangesNothing, Makes, ChangeFits, IsInverseChange};
 ghost use Rattle.drc_session.specs.Sessions.{IsApplied, IsDealt, IsCarriedOut, IsTurned, IsRefusedBy};
-ghost use Rattle.drc_session.specs.Holding.{state_of, IsKept};
+ghost use Rattle.drc_session.specs.SessionContents.{state_of, IsKept};
 
 use crate::applied::Applied;
 use crate::editing::edit_board;
@@ -21,7 +21,7 @@ use std::alloc::{AllocError, AllocGlobal, Global};
 use std::thread::Threads;
 use tile_pool::Gate;
 
-/// Makes the edit, and finds anew what it changed.
+/// Makes the edit, and finds again what it changed.
 fn carry_out<R: Threads + Sync, G: Gate>(
     rt: &R,
     alloc: Global,
@@ -40,14 +40,14 @@ fn carry_out<R: Threads + Sync, G: Gate>(
         IsApplied (state_of parts.old) (state_of parts.new) (is_replace (plain_edit edit)) r.0
         × IsDealt workers r.0) }
     ensures back { IfOk result (λ r.
-        LeadsBack (plain_change r.1) (state_of parts.new) (state_of parts.old)) }
+        IsInverseChange (plain_change r.1) (state_of parts.new) (state_of parts.old)) }
     ensures kind { IfOk result (λ r. is_replace (plain_change r.1) ≡ is_replace (plain_edit edit)) }
     ensures none { IfOk result (λ r. ChangesNothing (plain_edit edit)
         → plain_change r.1 ≡ no_change) }
 {
     match edit {
-        Edit::Board(deed) => {
-            let (applied, back) = edit_board(rt, alloc, workers, parts, deed, gate)?;
+        Edit::Board(operation) => {
+            let (applied, back) = edit_board(rt, alloc, workers, parts, operation, gate)?;
             Ok((applied, change_of(back)))
         }
         Edit::Rules(rules) => {
@@ -58,7 +58,7 @@ fn carry_out<R: Threads + Sync, G: Gate>(
 }
 
 impl Session {
-    /// Makes the edit. The session is stopped while it is changed, and stays so where memory is wanting.
+    /// Makes the edit. The session is stopped while it is changed, and stays so where memory runs out.
     fn make<R: Threads + Sync + AllocGlobal, G: Gate>(
         &mut self,
         rt: &R,
@@ -72,7 +72,7 @@ impl Session {
         ensures made { IfOk result (λ r. IsTurned self.old self.new (plain_edit edit) r.0
             × IsDealt workers r.0) }
         ensures back { IfOk result (λ r.
-            LeadsBack (plain_change r.1) self.new.state self.old.state) }
+            IsInverseChange (plain_change r.1) self.new.state self.old.state) }
         ensures kind { IfOk result (λ r. is_replace (plain_change r.1)
             ≡ is_replace (plain_edit edit)) }
         ensures none { IfOk result (λ r. ChangesNothing (plain_edit edit)
@@ -85,8 +85,8 @@ impl Session {
         Ok(made)
     }
 
-    /// Carries the command out, or says why it is not carried out. The tiles that it stirs are dealt to so many workers, from 1 to 64.
-    /// After each refusal but want of memory all is as it was. After want of memory the session is stopped.
+    /// Carries the command out, or says why it is not carried out. The tiles that it affects are dealt to so many workers, from 1 to 64.
+    /// After each refusal but running out of memory all is as it was. After running out of memory the session is stopped.
     pub fn apply<R: Threads + Sync + AllocGlobal, G: Gate>(
         &mut self,
         rt: &R,
@@ -105,7 +105,7 @@ impl Session {
         Ok(applied)
     }
 
-    /// Carries the command out as [`Session::apply`] does, and gives the change that leads back too. That change replaces the rules exactly
+    /// Carries the command out as [`Session::apply`] does, and gives the inverse change too. That change replaces the rules exactly
     /// where the command does, and where an added list gives no item, or a report is asked for again, it is [`Change::Nothing`].
     pub fn apply_kept<R: Threads + Sync + AllocGlobal, G: Gate>(
         &mut self,
@@ -119,7 +119,7 @@ impl Session {
         ensures carried { IfOk result (λ r.
             IsCarriedOut self.old self.new (plain_command command.now) r.0 × IsDealt workers r.0) }
         ensures back { IfOk result (λ r.
-            LeadsBack (plain_change r.1) self.new.state self.old.state) }
+            IsInverseChange (plain_change r.1) self.new.state self.old.state) }
         ensures kind { IfOk result (λ r. is_replace (plain_change r.1)
             ≡ is_rules (plain_command command.now)) }
         ensures none { IfOk result (λ r.
@@ -143,7 +143,7 @@ impl Session {
         }
     }
 
-    /// Makes a change that fits, and gives the one that leads back, which replaces the rules exactly where this one does. After want of
+    /// Makes a change that fits, and gives its inverse, which replaces the rules exactly where this one does. After running out of
     /// memory the session is stopped.
     pub fn turn<R: Threads + Sync + AllocGlobal, G: Gate>(
         &mut self,
@@ -158,7 +158,7 @@ impl Session {
         ensures made { IfOk result (λ r. IsTurned self.old self.new (plain_change change) r.0
             × IsDealt workers r.0) }
         ensures back { IfOk result (λ r.
-            LeadsBack (plain_change r.1) self.new.state self.old.state) }
+            IsInverseChange (plain_change r.1) self.new.state self.old.state) }
         ensures kind { IfOk result (λ r. is_replace (plain_change r.1)
             ≡ is_replace (plain_change change)) }
         ensures stopped { OnErr result (self.new.stopped ≡ true) }

@@ -6,17 +6,17 @@ ghost use Rattle.plain_types.specs.Limits.{IsWorkerCount};
 ghost use Rattle.geo_seg.specs.declared.boxes.Bounds.{Bounds};
 ghost use Rattle.geo_seg.specs.Boxes.{FitsIndex};
 ghost use Rattle.box_index.specs.Tiles.{dirty_of, held_of};
-ghost use Rattle.pair_check.specs.Views.{checked_by, IsWholeView};
+ghost use Rattle.pair_check.specs.CheckViews.{checked_by, IsWholeView};
 ghost use Rattle.pair_check.specs.Rows.{Checked, AreRows};
-ghost use Rattle.row_check.specs.Tiles.{IsIndexOf};
+ghost use Rattle.row_check.specs.RowsOfTile.{IsIndexOf};
 ghost use Rattle.row_check.specs.Whole.{AreEnough};
-ghost use Rattle.kept_rows.specs.Steps.{IsStep};
+ghost use Rattle.kept_rows.specs.CheckChanges.{IsCheckChange};
 ghost use Rattle.drc_session.specs.Sessions.{IsDealt};
 
 use crate::applied::Applied;
 use box_index::TileIndex;
 use geo_seg::Bounds;
-use kept_rows::{renew_rows, rows_anew};
+use kept_rows::{update_rows, whole_board_rows};
 use row_check::{CheckView, Row, ids_of};
 use std::alloc::{AllocError, Global};
 use std::thread::Threads;
@@ -50,7 +50,7 @@ pub(crate) fn check_all<R: Threads + Sync, G: Gate>(
         changed: &ids,
     };
     let (batches, dealt) = test_tiles(rt, alloc, workers, work, gate)?;
-    let rows = rows_anew(alloc, &view, index, &ids, &tiles, &batches)?;
+    let rows = whole_board_rows(alloc, &view, index, &ids, &tiles, &batches)?;
     let applied = Applied {
         dealt,
         tiles,
@@ -59,8 +59,9 @@ pub(crate) fn check_all<R: Threads + Sync, G: Gate>(
     Ok((rows, applied))
 }
 
-/// Makes the rows before an edit those of what is checked now. `changed` are the ids of all that changed, rising, and the boxes are theirs, as they were
-/// and as they are: the tiles that these meet are gone through. Only want of memory fails it, and the rows are then of no use.
+/// Makes the rows before an edit those of what is checked now. `changed` are the ids of all that changed, rising, and the boxes are theirs,
+/// as they were and as they are: the tiles that these meet are gone through. Only running out of memory fails it, and the rows are then of
+/// no use.
 pub(crate) fn check_near<R: Threads + Sync, G: Gate>(
     rt: &R,
     alloc: Global,
@@ -76,7 +77,8 @@ pub(crate) fn check_near<R: Threads + Sync, G: Gate>(
     requires boxes { All FitsIndex near.boxes.now }
     requires enough { AreEnough near.index.now near.changed.now
         (dirty_of near.index.now near.boxes.now false) }
-    ensures rows { (old : Checked) → IsStep old (checked_by near.entry.view) near.entry.changed.now
+    ensures rows { (old : Checked) → IsCheckChange old
+        (checked_by near.entry.view) near.entry.changed.now
         → AreRows old rows.old.items
         → IfOk result (λ _. AreRows (checked_by near.entry.view) rows.new.items) }
     ensures dealt { IfOk result (λ applied. IsDealt workers applied) }
@@ -92,7 +94,7 @@ pub(crate) fn check_near<R: Threads + Sync, G: Gate>(
         changed: near.changed,
     };
     let (batches, dealt) = test_tiles(rt, alloc, workers, work, gate)?;
-    renew_rows(
+    update_rows(
         alloc,
         &near.view,
         near.index,

@@ -1,7 +1,7 @@
 //! Copies of sessions.
 
 ghost use Rattle.std.specs.Prelude.{◌≡◌, false, IfOk};
-ghost use Rattle.drc_session.specs.Holding.{state_of, IsKept};
+ghost use Rattle.drc_session.specs.SessionContents.{state_of, IsKept};
 
 use crate::parts::Parts;
 use crate::session::Session;
@@ -41,7 +41,8 @@ fn copy_parts(parts: &Parts) -> Result<Parts, AllocError>
 }
 
 impl Session {
-    /// An equal session. It is asked only of a session that is not stopped. Only want of memory refuses it, and this one stays as it was.
+    /// An equal session. It is asked only of a session that is not stopped. Only running out of memory refuses it, and this one stays as it
+    /// was.
     pub fn copy(&self) -> Result<Session, AllocError>
         requires { self.now.stopped ≡ false }
         ensures { IfOk result (λ copy. copy ≡ self.now) }

@@ -7,37 +7,37 @@ ghost use Rattle.plain_types.specs.Lengths.{IsLength};
 ghost use Rattle.geo_seg.specs.declared.boxes.Bounds.{Bounds};
 ghost use Rattle.geo_seg.specs.Boxes.{FitsIndex};
 ghost use Rattle.board_items.specs.Boards.{PlainBoard};
-ghost use Rattle.board_index.specs.Holding.{IsIndexOfItems};
+ghost use Rattle.board_index.specs.IndexedItems.{IsIndexOfItems};
 ghost use Rattle.board_laws.specs.Edits.{IsEdit};
 ghost use Rattle.box_index.specs.Tiles.{dirty_of, held_of};
 ghost use Rattle.rule_pick.specs.AllFacts.{HasFacts};
 ghost use Rattle.pair_check.specs.Rows.{Checked, AreRows};
-ghost use Rattle.row_check.specs.Tiles.{IsIndexOf};
+ghost use Rattle.row_check.specs.RowsOfTile.{IsIndexOf};
 ghost use Rattle.net_groups.specs.NetParts.{AreParts};
-ghost use Rattle.kept_facts.specs.Kept.{AreMarksBefore};
-ghost use Rattle.kept_rows.specs.Steps.{IsStep};
-ghost use Rattle.board_edits.specs.Deeds.{nothing};
-ghost use Rattle.board_edits.specs.Fitting.{plain_deed, DeedFits, GivesNothing, AddsNone};
+ghost use Rattle.kept_facts.specs.FactUpdates.{AreMarksBefore};
+ghost use Rattle.kept_rows.specs.CheckChanges.{IsCheckChange};
+ghost use Rattle.board_edits.specs.Operations.{nothing};
+ghost use Rattle.board_edits.specs.Fitting.{plain_operation, OperationFits, GivesNothing, AddsNone};
 ghost use Rattle.drc_state.specs.States.{checked_in};
-ghost use Rattle.drc_state.specs.Changes.{edit, Makes, LeadsBack};
+ghost use Rattle.drc_state.specs.StateChanges.{edit, Makes, IsInverseChange};
 ghost use Rattle.drc_session.specs.Sessions.{IsApplied, IsDealt};
-ghost use Rattle.drc_session.specs.Holding.{state_of, state_with, IsKept};
+ghost use Rattle.drc_session.specs.SessionContents.{state_of, state_with, IsKept};
 ghost use Rattle.drc_session.specs.Looks.{HasNetsOf};
-ghost use Rattle.drc_session.specs.Steps.{IsLook, IsEditedFrom, AreTilesNear};
+ghost use Rattle.drc_session.specs.EditSteps.{IsLook, IsEditedFrom, AreTilesNear};
 
 use crate::applied::Applied;
 use crate::checking::{Near, check_all, check_near};
-use crate::indexing::renew_index;
+use crate::indexing::update_index;
 use crate::looking::{push_boxes, push_nets};
 use crate::parts::Parts;
 use crate::reaching::{asks_farthest, reach_after};
-use board_edits::{Deed, ids_touched, make};
+use board_edits::{Operation, ids_touched, make};
 use board_index::index_of;
 use board_items::{Board, Item, Nm};
 use box_index::{TileIndex, put_in_order};
 use geo_seg::Bounds;
-use kept_facts::{marks_before, renew_facts};
-use kept_nets::{NetPart, renew_parts};
+use kept_facts::{marks_before, update_facts};
+use kept_nets::{NetPart, update_parts};
 use row_check::CheckView;
 use std::alloc::{AllocError, Global};
 use std::thread::Threads;
@@ -84,7 +84,7 @@ fn look_up(alloc: Global, board: &Board, ids: &[u32], reach: Nm) -> Result<Look,
 
 /// Makes the index, after an edit of these ids, that of the board as it is now, under this reach. Where the reach stays only the
 /// entries of the ids are gone through.
-fn index_anew(
+fn index_recomputed(
     alloc: Global,
     board: &Board,
     index: &mut TileIndex,
@@ -99,7 +99,7 @@ fn index_anew(
     ensures reach { OnOk result (index.new.reach ≡ reach) }
 {
     if stays {
-        return renew_index(board, index, ids);
+        return update_index(board, index, ids);
     }
     *index = index_of(alloc, board, reach)?;
     Ok(())
@@ -107,7 +107,7 @@ fn index_anew(
 
 /// Makes the parts of nets, after an edit of these ids, those of the board as it is now. `touched` has the nets that the items of
 /// the ids had.
-fn nets_anew<R: Threads + Sync>(
+fn nets_recomputed<R: Threads + Sync>(
     rt: &R,
     workers: u32,
     board: &Board,
@@ -122,13 +122,13 @@ fn nets_anew<R: Threads + Sync>(
     let alloc = *touched.allocator();
     push_nets(board, ids, &mut touched)?;
     put_in_order(&mut touched);
-    renew_parts(rt, alloc, workers, board, nets, &touched)
+    update_parts(rt, alloc, workers, board, nets, &touched)
 }
 
-/// What an edit stirred: the ids of all that changed, rising, the boxes that those of the edit had, and whether the reach is as
+/// What an edit affected: the ids of all that changed, rising, the boxes that those of the edit had, and whether the reach is as
 /// before.
 #[derive(Drop)]
-pub(crate) struct Stirred {
+pub(crate) struct EditEffects {
     pub(crate) changed: Vec<u32>,
     pub(crate) boxes: Vec<Bounds>,
     pub(crate) stays: bool,
@@ -140,34 +140,34 @@ fn rows_after<R: Threads + Sync, G: Gate>(
     alloc: Global,
     workers: u32,
     parts: &mut Parts,
-    stirred: Stirred,
+    effects: EditEffects,
     gate: &G,
 ) -> Result<Applied, AllocError>
     requires workers { IsWorkerCount workers }
     requires facts { HasFacts parts.old.board parts.old.classes parts.old.facts }
     requires few { AreCounted parts.old.rules.rules }
     requires index { IsIndexOf (checked_in (state_of parts.old)) parts.old.index }
-    requires changed { IsStrictlyIncreasing stirred.changed.items }
-    requires boxes { All FitsIndex stirred.boxes.items }
+    requires changed { IsStrictlyIncreasing effects.changed.items }
+    requires boxes { All FitsIndex effects.boxes.items }
     ensures rows { (old : Checked)
-        → IsStep old (checked_in (state_of parts.old)) stirred.changed.items
+        → IsCheckChange old (checked_in (state_of parts.old)) effects.changed.items
         → AreRows old parts.old.rows.items
         → OnOk result (AreRows (checked_in (state_of parts.old)) parts.new.rows.items) }
     ensures rest { parts.new ≡ record parts.old { rows = parts.new.rows } }
-    ensures near { stirred.stays ≡ true → IfOk result (λ applied.
-        AreTilesNear parts.old.board parts.old.index stirred.changed.items stirred.boxes.items
+    ensures near { effects.stays ≡ true → IfOk result (λ applied.
+        AreTilesNear parts.old.board parts.old.index effects.changed.items effects.boxes.items
         applied.tiles.items) }
-    ensures all { stirred.stays ≡ false
+    ensures all { effects.stays ≡ false
         → IfOk result (λ applied. (boxes : List Bounds)
         → applied.tiles.items ≡ dirty_of parts.old.index boxes true) }
     ensures dealt { IfOk result (λ applied. IsDealt workers applied) }
     ensures held { IfOk result (λ applied. applied.held ≡ length (held_of parts.old.index)) }
 {
-    let Stirred {
+    let EditEffects {
         changed,
         mut boxes,
         stays,
-    } = stirred;
+    } = effects;
     let view = CheckView {
         board: &parts.board,
         facts: &parts.facts,
@@ -197,8 +197,8 @@ fn is_same(reach: Nm, before: Nm) -> bool
     reach == before
 }
 
-/// Finds anew what an edit of these ids changed. `look` is what was looked up before it. Only want of memory fails it.
-fn find_anew<R: Threads + Sync, G: Gate>(
+/// Finds again what an edit of these ids changed. `look` is what was looked up before it. Only running out of memory fails it.
+fn find_recomputed<R: Threads + Sync, G: Gate>(
     rt: &R,
     alloc: Global,
     workers: u32,
@@ -226,9 +226,9 @@ fn find_anew<R: Threads + Sync, G: Gate>(
         look.asked,
     );
     let stays = is_same(reach, parts.reach);
-    index_anew(alloc, &parts.board, &mut parts.index, ids, reach, stays)?;
+    index_recomputed(alloc, &parts.board, &mut parts.index, ids, reach, stays)?;
     parts.reach = reach;
-    let changed = renew_facts(
+    let changed = update_facts(
         alloc,
         &parts.board,
         &parts.classes,
@@ -237,41 +237,42 @@ fn find_anew<R: Threads + Sync, G: Gate>(
         ids,
         &look.marks,
     )?;
-    nets_anew(rt, workers, &parts.board, &mut parts.nets, ids, look.nets)?;
-    let stirred = Stirred {
+    nets_recomputed(rt, workers, &parts.board, &mut parts.nets, ids, look.nets)?;
+    let effects = EditEffects {
         changed,
         boxes: look.boxes,
         stays,
     };
-    let applied = rows_after(rt, alloc, workers, parts, stirred, gate)?;
+    let applied = rows_after(rt, alloc, workers, parts, effects, gate)?;
     Ok(applied)
 }
 
-/// Does the deed to the board, and finds anew what it changed. It gives the deed that leads back. Only want of memory fails it.
+/// Does the operation to the board, and finds again what it changed. It gives the inverse operation. Only running out of memory fails it.
 pub(crate) fn edit_board<R: Threads + Sync, G: Gate>(
     rt: &R,
     alloc: Global,
     workers: u32,
     parts: &mut Parts,
-    deed: Deed,
+    operation: Operation,
     gate: &G,
-) -> Result<(Applied, Deed), AllocError>
+) -> Result<(Applied, Operation), AllocError>
     requires workers { IsWorkerCount workers }
     requires kept { IsKept parts.old }
-    requires fits { DeedFits parts.old.board (plain_deed deed) }
+    requires fits { OperationFits parts.old.board (plain_operation operation) }
     ensures kept { OnOk result (IsKept parts.new) }
     ensures makes { OnOk result
-        (Makes (edit (plain_deed deed)) (state_of parts.old) (state_of parts.new)) }
+        (Makes (edit (plain_operation operation)) (state_of parts.old) (state_of parts.new)) }
     ensures applied { IfOk result (λ r.
         IsApplied (state_of parts.old) (state_of parts.new) false r.0 × IsDealt workers r.0) }
     ensures back { IfOk result (λ r.
-        LeadsBack (edit (plain_deed r.1)) (state_of parts.new) (state_of parts.old)
-        × AddsNone (plain_deed r.1)) }
-    ensures none { IfOk result (λ r. GivesNothing (plain_deed deed) → plain_deed r.1 ≡ nothing) }
+        IsInverseChange (edit (plain_operation r.1)) (state_of parts.new) (state_of parts.old)
+        × AddsNone (plain_operation r.1)) }
+    ensures none { IfOk result (λ r. GivesNothing (plain_operation operation)
+        → plain_operation r.1 ≡ nothing) }
 {
-    let touched = ids_touched(alloc, &parts.board, &deed)?;
+    let touched = ids_touched(alloc, &parts.board, &operation)?;
     let look = look_up(alloc, &parts.board, &touched, parts.reach)?;
-    let made = make(alloc, &mut parts.board, deed, touched)?;
-    let applied = find_anew(rt, alloc, workers, parts, &made.ids, look, gate)?;
+    let made = make(alloc, &mut parts.board, operation, touched)?;
+    let applied = find_recomputed(rt, alloc, workers, parts, &made.ids, look, gate)?;
     Ok((applied, made.back))
 }

@@ -5,10 +5,10 @@ ghost use Rattle.geo_seg.specs.declared.boxes.Bounds.{Bounds};
 ghost use Rattle.board_items.specs.Boards.{PlainBoard};
 ghost use Rattle.rule_pick.specs.declared.facts.Facts.{Facts};
 ghost use Rattle.box_index.specs.Tiles.{PlainIndex, dirty_of};
-ghost use Rattle.row_check.specs.Tiles.{IsIndexOf};
+ghost use Rattle.row_check.specs.RowsOfTile.{IsIndexOf};
 ghost use Rattle.row_check.specs.Whole.{AreEnough};
 ghost use Rattle.pair_check.specs.Rows.{Checked};
-ghost use Rattle.drc_state.specs.Boxes.{AreBoxesOf};
+ghost use Rattle.drc_state.specs.DirtyBoxes.{AreBoxesOf};
 ghost use Rattle.drc_session.specs.Looks.{AreBoxesIn, IsNotedEdit};
 
 /// The boxes that an edit's ids had, and those that all changed ids have now, are those of all that differs.

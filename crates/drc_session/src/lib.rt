@@ -1,5 +1,5 @@
 //! Sessions: a board that is edited and stays checked. After each command its rows and its nets are those of the board as it now is, and
-//! only the tiles are gone through again that the command stirred.
+//! only the tiles are rechecked that the command affected.
 #![tactic(auto)]
 
 mod applied;

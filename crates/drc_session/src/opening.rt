@@ -5,9 +5,9 @@ ghost use Rattle.plain_types.specs.Limits.{AreCounted, IsWorkerCount};
 ghost use Rattle.cond_lang.specs.Rules.{plain_rule};
 ghost use Rattle.rule_pick.specs.AllFacts.{HasFacts};
 ghost use Rattle.net_groups.specs.NetParts.{AreParts};
-ghost use Rattle.rule_text.specs.Views.{plain_rules};
+ghost use Rattle.rule_text.specs.RuleValues.{plain_rules};
 ghost use Rattle.drc_session.specs.Sessions.{IsOpened, IsDealt};
-ghost use Rattle.drc_session.specs.Holding.{state_of, IsReached, IsKept};
+ghost use Rattle.drc_session.specs.SessionContents.{state_of, IsReached, IsKept};
 
 use crate::applied::Applied;
 use crate::checking::check_all;
@@ -148,7 +148,7 @@ fn open<R: Threads + Sync, G: Gate>(
 
 impl Session {
     /// A session of this board under these classes and rules: all is checked, by so many workers, from 1 to 64. There are fewer than
-    /// 2^32 - 1 rules. Only want of memory refuses it.
+    /// 2^32 - 1 rules. Only running out of memory refuses it.
     pub fn begin<R: Threads + Sync + AllocGlobal, G: Gate>(
         rt: &R,
         workers: u32,

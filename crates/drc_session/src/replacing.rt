@@ -3,12 +3,12 @@
 ghost use Rattle.std.specs.Prelude.{◌≡◌, ◌<◌, true, OnOk, IfOk};
 ghost use Rattle.plain_types.specs.Limits.{AreCounted, IsWorkerCount};
 ghost use Rattle.plain_types.specs.Lengths.{IsLength};
-ghost use Rattle.rule_text.specs.Views.{plain_rules};
-ghost use Rattle.board_index.specs.Holding.{IsIndexOfItems};
-ghost use Rattle.row_check.specs.Tiles.{IsIndexOf};
+ghost use Rattle.rule_text.specs.RuleValues.{plain_rules};
+ghost use Rattle.board_index.specs.IndexedItems.{IsIndexOfItems};
+ghost use Rattle.row_check.specs.RowsOfTile.{IsIndexOf};
 ghost use Rattle.drc_state.specs.States.{checked_in};
 ghost use Rattle.drc_session.specs.Sessions.{IsApplied, IsDealt};
-ghost use Rattle.drc_session.specs.Holding.{state_of, IsKept};
+ghost use Rattle.drc_session.specs.SessionContents.{state_of, IsKept};
 
 use crate::applied::Applied;
 use crate::checking::check_all;
@@ -22,7 +22,7 @@ use std::thread::Threads;
 use tile_pool::Gate;
 
 /// An index that reaches as far as the rules ask for, where the one that there is does not.
-fn reach_anew(alloc: Global, parts: &mut Parts) -> Result<(), AllocError>
+fn reach_recomputed(alloc: Global, parts: &mut Parts) -> Result<(), AllocError>
     requires items { IsIndexOfItems parts.old.board parts.old.index }
     requires reach { (parts.old.reach ≡ parts.old.index.reach) × IsLength parts.old.reach }
     ensures index { OnOk result (IsIndexOf (checked_in (state_of parts.new)) parts.new.index) }
@@ -39,7 +39,8 @@ fn reach_anew(alloc: Global, parts: &mut Parts) -> Result<(), AllocError>
     Ok(())
 }
 
-/// Puts these rules in place of those that there are, and checks all. It gives the rules that there were. Only want of memory fails it.
+/// Puts these rules in place of those that there are, and checks all. It gives the rules that there were. Only running out of memory fails
+/// it.
 pub(crate) fn replace_rules<R: Threads + Sync, G: Gate>(
     rt: &R,
     alloc: Global,
@@ -59,7 +60,7 @@ pub(crate) fn replace_rules<R: Threads + Sync, G: Gate>(
     ensures back { IfOk result (λ r. r.1 ≡ parts.old.rules) }
 {
     let before = std::mem::replace(&mut parts.rules, rules);
-    reach_anew(alloc, parts)?;
+    reach_recomputed(alloc, parts)?;
     let view = CheckView {
         board: &parts.board,
         facts: &parts.facts,

@@ -1,8 +1,8 @@
 //! The session.
 
 ghost use Rattle.std.specs.Prelude.{◌≡◌, false};
-ghost use Rattle.rule_text.specs.Views.{plain_rules};
-ghost use Rattle.pair_check.specs.Views.{checked_by, IsWholeView};
+ghost use Rattle.rule_text.specs.RuleValues.{plain_rules};
+ghost use Rattle.pair_check.specs.CheckViews.{checked_by, IsWholeView};
 ghost use Rattle.pair_check.specs.Rows.{AreRows};
 ghost use Rattle.net_groups.specs.NetParts.{AreParts};
 ghost use Rattle.drc_state.specs.States.{checked_in};
@@ -16,7 +16,7 @@ use std::marker::Model;
 use std::thread::{Threads, join};
 
 /// A board that is edited and stays checked, under the classes of a project and rules. Contracts see the state, its rows and its nets,
-/// and whether an earlier call stopped the session by a want of memory.
+/// and whether an earlier call stopped the session by running out of memory.
 #[derive(Drop)]
 pub struct Session {
     pub(crate) parts: Parts,
@@ -28,7 +28,7 @@ impl Model for Session {
     ghost use Rattle.std.specs.Coded.{codes};
     ghost use Rattle.cond_lang.specs.TreeCode.{coded_tree};
     ghost use Rattle.drc_session.specs.Sessions.{PlainSession};
-    ghost use Rattle.drc_session.specs.Holding.{state_of, IsKept};
+    ghost use Rattle.drc_session.specs.SessionContents.{state_of, IsKept};
 
     ghost Value = { PlainSession };
 
@@ -96,7 +96,7 @@ impl Session {
         &self.parts.nets
     }
 
-    /// Whether an earlier call met a want of memory.
+    /// Whether an earlier call ran out of memory.
     pub fn stopped(&self) -> bool
         ensures { result ≡ self.now.stopped }
     {

@@ -1,4 +1,4 @@
--- The tiles that an index finds by the boxes of all that differs are those that are gone through again.
+-- The tiles that an index finds by the boxes of all that differs are those that are rechecked.
 use Rattle.std.proofs.Common.{◌≡◌, ◌⊎◌, inl, inr, refl, sym, subst, ℕ, ◌<◌, Bool, true, false, ◌&&◌, ◌||◌, List, Contains}
 use Rattle.std.proofs.lemmas.List.Folds.{Any-from_list_any, list_any_at}
 use Rattle.std.proofs.lemmas.List.Elements.{All-weaker, All-filter, filter_passes}
@@ -9,14 +9,14 @@ use Rattle.board_items.specs.Boards.{PlainBoard}
 use Rattle.box_index.specs.declared.entry.Entry.{Entry}
 use Rattle.box_index.specs.Tiles.{PlainIndex, margin, meets_tile, is_held, is_met_by, dirty_of, numbers_below, tile_count}
 use Rattle.box_index.proofs.Buckets.{contains_filter}
-use Rattle.board_index.specs.Holding.{IsEntryOf, IsIndexOfItems}
+use Rattle.board_index.specs.IndexedItems.{IsEntryOf, IsIndexOfItems}
 use Rattle.board_index.specs.TilesHeld.{IsMetBy, HoldsItem, AreTilesHeld}
 use Rattle.board_index.proofs.Numbers.{low_numbers, all_rise, has_number}
 use Rattle.board_index.proofs.Held.{holds, held}
 use Rattle.pair_check.specs.Rows.{Checked}
-use Rattle.row_check.specs.Tiles.{IsIndexOf}
-use Rattle.drc_state.specs.Recheck.{IsFarthest, IsStirred, AreStirred, ReachDiffers, AreRechecked, whole, near}
-use Rattle.drc_state.specs.Boxes.{AreBoxesOf}
+use Rattle.row_check.specs.RowsOfTile.{IsIndexOf}
+use Rattle.drc_state.specs.Recheck.{IsFarthest, IsDirty, AreDirty, ReachDiffers, AreRechecked, whole, near}
+use Rattle.drc_state.specs.DirtyBoxes.{AreBoxesOf}
 
 and_first : (a b : Bool) → (a && b) ≡ true → a ≡ true
 and_first true b h = refl
@@ -38,8 +38,8 @@ all_tiles tiles_held old new index is boxes replaced h =
 
 module _ (old new : Checked) (index : PlainIndex) (is : IsIndexOf new index) (far : IsFarthest old index.reach) (boxes : List Bounds) (are : AreBoxesOf old new boxes) where
   -- what meets the tile by a box of all that differs
-  stirred : (tile : ℕ) → is_met_by (margin index) boxes tile ≡ true → IsStirred old new index.reach tile
-  stirred tile t =
+  effects : (tile : ℕ) → is_met_by (margin index) boxes tile ≡ true → IsDirty old new index.reach tile
+  effects tile t =
       let a = Any-from_list_any (λ b. meets_tile (widened b (margin index)) tile) boxes t in
       let found = are.only a.1 (a.0, a.2, a.3) in
       let meets = subst (λ (b : Bounds). meets_tile (widened b (margin index)) tile ≡ true) (sym found.1) a.4 in
@@ -49,8 +49,8 @@ module _ (old new : Checked) (index : PlainIndex) (is : IsIndexOf new index) (fa
       by_side entry m (inl own) = inl (record { own = own; meets = m })
       by_side entry m (inr own) = inr (record { own = own; meets = m })
 
-  -- what something stirs, a box of all that differs meets
-  met : (tile : ℕ) → IsStirred old new index.reach tile → is_met_by (margin index) boxes tile ≡ true
+  -- what something affects, a box of all that differs meets
+  met : (tile : ℕ) → IsDirty old new index.reach tile → is_met_by (margin index) boxes tile ≡ true
   met tile s = by_side s.met
     where
       at : Contains boxes s.entry.bounds → meets_tile (widened s.entry.bounds (margin index)) tile ≡ true → is_met_by (margin index) boxes tile ≡ true
@@ -64,15 +64,15 @@ module _ (old new : Checked) (index : PlainIndex) (is : IsIndexOf new index) (fa
   test tile = is_held index tile && (false || is_met_by (margin index) boxes tile)
 
   abbrev P : ℕ → Type 0
-  P tile = HoldsItem new.board index.reach tile × IsStirred old new index.reach tile
+  P tile = HoldsItem new.board index.reach tile × IsDirty old new index.reach tile
 
   passes : (tile : ℕ) → test tile ≡ true → P tile
   passes tile t = (
     holds new.board index is.items tile (and_first (is_held index tile) (false || is_met_by (margin index) boxes tile) t),
-    stirred tile (and_second (is_held index tile) (false || is_met_by (margin index) boxes tile) t),
+    effects tile (and_second (is_held index tile) (false || is_met_by (margin index) boxes tile) t),
   )
 
-  found : AreStirred old new index.reach (dirty_of index boxes false)
+  found : AreDirty old new index.reach (dirty_of index boxes false)
   found = record {
     rising = IsStrictlyIncreasing-filter test (numbers_below tile_count) (all_rise tile_count);
     within = All-filter test (λ tile. tile < tile_count) (numbers_below tile_count) (low_numbers tile_count);

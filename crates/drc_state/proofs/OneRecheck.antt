@@ -1,4 +1,4 @@
--- What is checked has one reach, and after a change one list of tiles is gone through again.
+-- What is checked has one reach, and after a change one list of tiles is rechecked.
 use Rattle.std.proofs.Common.{◌≡◌, ◌⊎◌, inl, inr, sym, subst, ◌∙◌, ℕ, ◌<◌, ℤ, ◌≤ℤ◌, Bool, true, false, List, true≢false, arith}
 use Rattle.std.proofs.lemmas.Int.{ints}
 use Rattle.std.proofs.lemmas.List.Elements.{All-contains}
@@ -9,7 +9,7 @@ use Rattle.box_index.specs.Tiles.{tile_count}
 use Rattle.board_index.specs.TilesHeld.{HoldsItem, AreTilesHeld}
 use Rattle.board_index.proofs.OneList.{same_lists}
 use Rattle.pair_check.specs.Rows.{Checked}
-use Rattle.drc_state.specs.Recheck.{IsFarthest, AreHeld, IsStirred, AreStirred, ReachStays, ReachDiffers, AreRechecked, whole, near}
+use Rattle.drc_state.specs.Recheck.{IsFarthest, AreHeld, IsDirty, AreDirty, ReachStays, ReachDiffers, AreRechecked, whole, near}
 
 both : (x y : ℤ) → x ≤ℤ y → y ≤ℤ x → x ≡ y
 both x y f g = omega (arith, ints)
@@ -25,12 +25,12 @@ pub one_list_held : (one : (board : PlainBoard) (reach : ℤ) (xs ys : List ℕ)
 one_list_held one c xs ys h k =
     one c.board k.reach xs ys (subst (λ (n : ℤ). AreTilesHeld c.board n xs) (one_reach c h.reach k.reach h.farthest k.farthest) h.are_held) k.are_held
 
--- the tile holds an item, and something stirred it
+-- the tile holds an item, and something affected it
 abbrev IsFound : Checked → Checked → ℤ → ℕ → Type 0
-IsFound old new reach tile = HoldsItem new.board reach tile × IsStirred old new reach tile
+IsFound old new reach tile = HoldsItem new.board reach tile × IsDirty old new reach tile
 
-one_list_stirred : (old new : Checked) (reach : ℤ) (xs ys : List ℕ) → AreStirred old new reach xs → AreStirred old new reach ys → xs ≡ ys
-one_list_stirred old new reach xs ys h k =
+one_list_dirty : (old new : Checked) (reach : ℤ) (xs ys : List ℕ) → AreDirty old new reach xs → AreDirty old new reach ys → xs ≡ ys
+one_list_dirty old new reach xs ys h k =
     same_lists (λ a b. a < b) (λ a b f g. omega arith) xs ys (AllPairs-from_increasing xs h.rising) (AllPairs-from_increasing ys k.rising)
     (λ t e. k.all t (All-contains (λ tile. tile < tile_count) xs t h.within e) (All-contains (IsFound old new reach) xs t h.only e).0 (All-contains (IsFound old new reach) xs t h.only e).1)
     (λ t e. h.all t (All-contains (λ tile. tile < tile_count) ys t k.within e) (All-contains (IsFound old new reach) ys t k.only e).0 (All-contains (IsFound old new reach) ys t k.only e).1)
@@ -48,4 +48,4 @@ one_recheck one old new replaced xs ys (whole h t) (whole k u) = one new xs ys t
 one_recheck one old new replaced xs ys (whole h t) (near f reach s u) = absurd (apart old new replaced reach h f s)
 one_recheck one old new replaced xs ys (near f reach s t) (whole k u) = absurd (apart old new replaced reach k f s)
 one_recheck one old new replaced xs ys (near f reach s t) (near g other r u) =
-    one_list_stirred old new other xs ys (subst (λ (n : ℤ). AreStirred old new n xs) (one_reach old reach other s.was r.was) t) u
+    one_list_dirty old new other xs ys (subst (λ (n : ℤ). AreDirty old new n xs) (one_reach old reach other s.was r.was) t) u

@@ -6,40 +6,40 @@ use Rattle.edit_script.specs.declared.command.Command.TheVariants.{Add, Delete, 
 use Rattle.edit_script.specs.Commands.{PlainCommand, add, delete, move, rules, again, plain_command}
 use Rattle.board_edits.specs.declared.refusal.Refusal.{Refusal}
 use Rattle.board_edits.specs.declared.refusal.Refusal.TheVariants.{NoSuchItem as NoItem, SharedName as Shared, PartOfFootprint as Part, Item as ItemRefused, OutOfMemory as NoMemory}
-use Rattle.board_edits.specs.Deeds.{PlainDeed, nothing, append, Does, GivesNoItem}
+use Rattle.board_edits.specs.Operations.{PlainOperation, nothing, append, Does, GivesNoItem}
 use Rattle.board_edits.specs.Fitting.{GivesNothing}
 use Rattle.rule_text.specs.declared.error.RuleError.{RuleError}
 use Rattle.rule_text.specs.ListText.{SaysList}
 use Rattle.drc_state.specs.declared.error.EditError.{EditError}
 use Rattle.drc_state.specs.declared.error.EditError.TheVariants.{Rules, Stopped, OutOfMemory}
 use Rattle.drc_state.specs.States.{State}
-use Rattle.drc_state.specs.Steps.{is_rules, edit_error, IsAfterDeed, Answers}
-use Rattle.drc_state.specs.Changes.{edit, Makes}
+use Rattle.drc_state.specs.CommandSteps.{is_rules, edit_error, IsAfterOperation, Answers}
+use Rattle.drc_state.specs.StateChanges.{edit, Makes}
 
-answers : (s : State) (command : PlainCommand) (answer : Result State EditError) (deed : Result PlainDeed Refusal)
-    → is_rules command ≡ false → Does s.board command deed → IsAfterDeed s deed answer → Answers s command answer
-answers s (add text at) answer deed none does after = (deed, does, after)
-answers s (delete name at) answer deed none does after = (deed, does, after)
-answers s (move name dx dy at) answer deed none does after = (deed, does, after)
-answers s (rules text at) answer deed none does after = absurd (cc)
-answers s (again at) answer deed none does after = (deed, does, after)
+answers : (s : State) (command : PlainCommand) (answer : Result State EditError) (operation : Result PlainOperation Refusal)
+    → is_rules command ≡ false → Does s.board command operation → IsAfterOperation s operation answer → Answers s command answer
+answers s (add text at) answer operation none does after = (operation, does, after)
+answers s (delete name at) answer operation none does after = (operation, does, after)
+answers s (move name dx dy at) answer operation none does after = (operation, does, after)
+answers s (rules text at) answer operation none does after = absurd (cc)
+answers s (again at) answer operation none does after = (operation, does, after)
 
-pub makes_answer : (old new : State) (board : PlainBoard) (command : PlainCommand) (deed : PlainDeed)
-    → is_rules command ≡ false → old.board ≡ board → Does board command (Ok deed) → Makes (edit deed) old new → Answers old command (Ok new)
-makes_answer old new board command deed none same does makes =
-    answers old command (Ok new) (Ok deed) none (subst (λ (b : PlainBoard). Does b command (Ok deed)) (sym same) does)
+pub makes_answer : (old new : State) (board : PlainBoard) (command : PlainCommand) (operation : PlainOperation)
+    → is_rules command ≡ false → old.board ≡ board → Does board command (Ok operation) → Makes (edit operation) old new → Answers old command (Ok new)
+makes_answer old new board command operation none same does makes =
+    answers old command (Ok new) (Ok operation) none (subst (λ (b : PlainBoard). Does b command (Ok operation)) (sym same) does)
     (new.board, makes.0, ap (λ (s : State). Ok s) makes.1)
 
--- what gives no item is a deed that gives nothing
-ok_once : (x y : PlainDeed) (r : Result PlainDeed Refusal) → r ≡ Ok x → r ≡ Ok y → x ≡ y
+-- what gives no item is an operation that gives nothing
+ok_once : (x y : PlainOperation) (r : Result PlainOperation Refusal) → r ≡ Ok x → r ≡ Ok y → x ≡ y
 ok_once x y r h k = cc
 
-pub gives_nothing : (board : PlainBoard) (command : PlainCommand) (deed : PlainDeed) → ((answer : Result PlainDeed Refusal) → Does board command answer → answer ≡ Ok deed) → GivesNoItem board command → GivesNothing deed
-gives_nothing board (add text at) deed only none = subst GivesNothing (ok_once (append []) deed (Ok (append [])) refl (only (Ok (append [])) (Ok [], none, refl))) tt
-gives_nothing board (delete name at) deed only none = absurd none
-gives_nothing board (move name dx dy at) deed only none = absurd none
-gives_nothing board (rules text at) deed only none = absurd none
-gives_nothing board (again at) deed only none = subst GivesNothing (ok_once nothing deed (Ok nothing) refl (only (Ok nothing) refl)) tt
+pub gives_nothing : (board : PlainBoard) (command : PlainCommand) (operation : PlainOperation) → ((answer : Result PlainOperation Refusal) → Does board command answer → answer ≡ Ok operation) → GivesNoItem board command → GivesNothing operation
+gives_nothing board (add text at) operation only none = subst GivesNothing (ok_once (append []) operation (Ok (append [])) refl (only (Ok (append [])) (Ok [], none, refl))) tt
+gives_nothing board (delete name at) operation only none = absurd none
+gives_nothing board (move name dx dy at) operation only none = absurd none
+gives_nothing board (rules text at) operation only none = absurd none
+gives_nothing board (again at) operation only none = subst GivesNothing (ok_once nothing operation (Ok nothing) refl (only (Ok nothing) refl)) tt
 
 pub no_rules : (command : Command) → ((text : _) (at : _) → command ≡ RulesIn text at → ⊥) → is_rules (plain_command command) ≡ false
 no_rules (Add text at) none = refl

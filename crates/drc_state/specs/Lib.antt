@@ -1,6 +1,6 @@
 pub mod States
-pub mod Steps
-pub mod Changes
+pub mod CommandSteps
+pub mod StateChanges
 pub mod Recheck
-pub mod Boxes
-pub mod Reasons
+pub mod DirtyBoxes
+pub mod CommandReasons

@@ -1,6 +1,6 @@
 -- What is edited: a board, under the classes of a project and rules.
 use Rattle.board_items.specs.Boards.{PlainBoard}
-use Rattle.net_class.specs.Classes.{PlainClasses}
+use Rattle.net_class.specs.NetClasses.{PlainClasses}
 use Rattle.rule_text.specs.RulesOf.{PlainRules}
 use Rattle.pair_check.specs.Rows.{Checked}
 

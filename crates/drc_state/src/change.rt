@@ -1,10 +1,10 @@
 //! Changes of a state.
 
 ghost use Rattle.std.specs.Prelude.{◌≡◌};
-ghost use Rattle.board_edits.specs.Fitting.{plain_deed, AddsNone};
-ghost use Rattle.drc_state.specs.Changes.{edit, plain_change, plain_edit};
+ghost use Rattle.board_edits.specs.Fitting.{plain_operation, AddsNone};
+ghost use Rattle.drc_state.specs.StateChanges.{edit, plain_change, plain_edit};
 
-use board_edits::Deed;
+use board_edits::Operation;
 use board_items::{Kept, Nm};
 use rule_text::Rules;
 
@@ -26,7 +26,7 @@ pub enum Change {
 /// What is done to a state: to its board, or to its rules.
 #[derive(Drop)]
 pub enum Edit {
-    Board(Deed),
+    Board(Operation),
     Rules(Rules),
 }
 
@@ -35,24 +35,24 @@ pub fn edit_in(change: Change) -> Edit
     ensures { plain_edit result ≡ plain_change change }
 {
     match change {
-        Change::Nothing => Edit::Board(Deed::Nothing),
-        Change::PutBack { items } => Edit::Board(Deed::PutBack { items }),
-        Change::TakeOut { unit } => Edit::Board(Deed::TakeOut { unit }),
-        Change::Shift { unit, dx, dy } => Edit::Board(Deed::Shift { unit, dx, dy }),
+        Change::Nothing => Edit::Board(Operation::Nothing),
+        Change::PutBack { items } => Edit::Board(Operation::PutBack { items }),
+        Change::TakeOut { unit } => Edit::Board(Operation::TakeOut { unit }),
+        Change::Shift { unit, dx, dy } => Edit::Board(Operation::Shift { unit, dx, dy }),
         Change::Replace { rules } => Edit::Rules(rules),
     }
 }
 
-/// The change that is a deed which adds no new items.
-pub fn change_of(deed: Deed) -> Change
-    requires { AddsNone (plain_deed deed) }
-    ensures { plain_change result ≡ edit (plain_deed deed) }
+/// The change that is an operation which adds no new items.
+pub fn change_of(operation: Operation) -> Change
+    requires { AddsNone (plain_operation operation) }
+    ensures { plain_change result ≡ edit (plain_operation operation) }
 {
-    match deed {
-        Deed::Nothing => Change::Nothing,
-        Deed::Append { .. } => unreachable!(),
-        Deed::PutBack { items } => Change::PutBack { items },
-        Deed::TakeOut { unit } => Change::TakeOut { unit },
-        Deed::Shift { unit, dx, dy } => Change::Shift { unit, dx, dy },
+    match operation {
+        Operation::Nothing => Change::Nothing,
+        Operation::Append { .. } => unreachable!(),
+        Operation::PutBack { items } => Change::PutBack { items },
+        Operation::TakeOut { unit } => Change::TakeOut { unit },
+        Operation::Shift { unit, dx, dy } => Change::Shift { unit, dx, dy },
     }
 }

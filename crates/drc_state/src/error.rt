@@ -22,21 +22,21 @@ pub enum EditError {
     Item(BoardError),
     /// The rules are refused.
     Rules(RuleError),
-    /// An earlier call met a want of memory.
+    /// An earlier call ran out of memory.
     Stopped,
     /// Memory ran out.
     OutOfMemory,
 }
 
 impl HasReason for EditError {
-    ghost use Rattle.drc_state.specs.Reasons.{edit_reason};
+    ghost use Rattle.drc_state.specs.CommandReasons.{edit_reason};
 
     ghost reason_of = { edit_reason };
 
     ghost depth = { 3 };
 
     /// What it is called, its number and its byte of the text that it came from. A unit that is not found has no place.
-    /// Want of memory has no number, which is written 0, and no place.
+    /// Running out of memory has no number, which is written 0, and no place.
     fn reason(&self) -> Reason {
         match self {
             EditError::NoSuchItem => Reason::new("NoSuchItem", 1, None),
@@ -52,7 +52,7 @@ impl HasReason for EditError {
 
 impl From<Refusal> for EditError {
     ghost use Rattle.std.specs.Prelude.{◌≡◌};
-    ghost use Rattle.drc_state.specs.Steps.{edit_error};
+    ghost use Rattle.drc_state.specs.CommandSteps.{edit_error};
 
     ghost from_gives = { λ why e. e ≡ edit_error why };
 
@@ -81,7 +81,7 @@ impl From<AllocError> for EditError {
 impl fmt::Display for EditError {
     ghost use Rattle.std.specs.Prelude.{Some};
     ghost use Rattle.plain_types.specs.Reasons.{written};
-    ghost use Rattle.drc_state.specs.Reasons.{edit_reason};
+    ghost use Rattle.drc_state.specs.CommandReasons.{edit_reason};
 
     ghost output = { λ e. Some (written (edit_reason e)) };
 

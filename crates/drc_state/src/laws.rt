@@ -3,17 +3,17 @@
 ghost use Rattle.std.specs.Prelude.{◌≡◌, ◌⊎◌, ℕ, ℤ, Bool, true, false, List, Result};
 ghost use Rattle.geo_seg.specs.declared.boxes.Bounds.{Bounds};
 ghost use Rattle.box_index.specs.Tiles.{PlainIndex, dirty_of};
-ghost use Rattle.row_check.specs.Tiles.{IsIndexOf};
+ghost use Rattle.row_check.specs.RowsOfTile.{IsIndexOf};
 ghost use Rattle.pair_check.specs.Rows.{Checked};
 ghost use Rattle.edit_script.specs.Commands.{PlainCommand};
 ghost use Rattle.drc_state.specs.declared.error.EditError.{EditError};
 ghost use Rattle.drc_state.specs.States.{State};
-ghost use Rattle.drc_state.specs.Steps.{Answers};
-ghost use Rattle.drc_state.specs.Changes.{PlainChange, Makes};
+ghost use Rattle.drc_state.specs.CommandSteps.{Answers};
+ghost use Rattle.drc_state.specs.StateChanges.{PlainChange, Makes};
 ghost use Rattle.drc_state.specs.Recheck.{IsFarthest, AreHeld, ReachDiffers, AreRechecked};
-ghost use Rattle.drc_state.specs.Boxes.{AreBoxesOf};
+ghost use Rattle.drc_state.specs.DirtyBoxes.{AreBoxesOf};
 
-use board_edits::laws::{one_board, one_deed};
+use board_edits::laws::{one_board, one_operation};
 use board_index::{one_list_of_tiles, tiles_held};
 use rule_text::laws::one_list_reading;
 
@@ -22,7 +22,7 @@ pub fn one_answer()
     ensures { (s : State) (command : PlainCommand) (a b : Result State EditError)
         → Answers s command a → Answers s command b → a ≡ b }
 {
-    one_deed();
+    one_operation();
     one_board();
     one_list_reading();
 }
@@ -44,7 +44,7 @@ pub fn one_list_held()
     one_list_of_tiles();
 }
 
-/// After a change one list of tiles is gone through again.
+/// After a change one list of tiles is rechecked.
 pub fn one_recheck()
     ensures { (old new : Checked) (replaced : Bool) (tiles others : List ℕ)
         → AreRechecked old new replaced tiles → AreRechecked old new replaced others
@@ -53,7 +53,7 @@ pub fn one_recheck()
     one_list_held();
 }
 
-/// The tiles that an index of what is checked now finds by the boxes of all that differs are those that are gone through again.
+/// The tiles that an index of what is checked now finds by the boxes of all that differs are those that are rechecked.
 pub fn near_tiles()
     ensures { (old new : Checked) (index : PlainIndex) → IsIndexOf new index
         → IsFarthest old index.reach → (boxes : List Bounds) → AreBoxesOf old new boxes

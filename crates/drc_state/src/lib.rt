@@ -1,4 +1,4 @@
-//! States of what is edited: what a command makes of one, which changes lead back, and which tiles are gone through again.
+//! States of what is edited: what a command makes of one, which changes are inverse, and which tiles are rechecked.
 #![tactic(auto)]
 
 mod change;

@@ -4,18 +4,18 @@ ghost use Rattle.std.specs.Prelude.{◌≡◌, ◌⊎◌, ◌≢◌, ◌<◌, If
 ghost use Rattle.plain_types.specs.Limits.{AreCounted, IsInText, IsReadable};
 ghost use Rattle.rule_text.specs.declared.error.RuleError.{RuleError};
 ghost use Rattle.rule_text.specs.ListText.{SaysList};
-ghost use Rattle.rule_text.specs.Views.{plain_rules};
+ghost use Rattle.rule_text.specs.RuleValues.{plain_rules};
 ghost use Rattle.edit_script.specs.Commands.{plain_command};
 ghost use Rattle.edit_script.specs.Fits.{Fits};
-ghost use Rattle.board_edits.specs.Deeds.{GivesNoItem};
+ghost use Rattle.board_edits.specs.Operations.{GivesNoItem};
 ghost use Rattle.drc_state.specs.declared.error.EditError.{EditError};
 ghost use Rattle.drc_state.specs.States.{State};
-ghost use Rattle.drc_state.specs.Steps.{is_rules, Answers};
-ghost use Rattle.drc_state.specs.Changes.{plain_edit, is_replace, ChangesNothing, Makes, ChangeFits};
+ghost use Rattle.drc_state.specs.CommandSteps.{is_rules, Answers};
+ghost use Rattle.drc_state.specs.StateChanges.{plain_edit, is_replace, ChangesNothing, Makes, ChangeFits};
 
 use crate::change::Edit;
 use crate::error::EditError;
-use board_edits::deed_of;
+use board_edits::operation_of;
 use board_items::Board;
 use edit_script::Command;
 use rule_text::{RuleError, Rules, read_rule_list};
@@ -62,6 +62,6 @@ pub fn edit_of(alloc: Global, board: &Board, command: &Command<'_>) -> Result<Ed
             let rules = rules_in(alloc, text, *at)?;
             Ok(Edit::Rules(rules))
         }
-        _ => Ok(Edit::Board(deed_of(alloc, board, command)?)),
+        _ => Ok(Edit::Board(operation_of(alloc, board, command)?)),
     }
 }

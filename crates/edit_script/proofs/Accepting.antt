@@ -7,12 +7,12 @@ use Rattle.sexpr_read.specs.Tree.{Tree, leaf, branch, parts, content, value, quo
 use Rattle.exact_dec.specs.declared.DecError.{DecError}
 use Rattle.exact_dec.specs.Computed.{mm_cut_answer}
 use Rattle.edit_script.specs.declared.error.ScriptError.{ScriptError}
-use Rattle.list_read.specs.Answers.{◌>>=◌, each_of}
-use Rattle.list_read.specs.Heads.{place, text_of, is_value, first_is_word, has_word_head, behind_one, behind_head}
-use Rattle.edit_script.specs.Forms.{bad, no_more, shift_from, shift_in, shift_of}
+use Rattle.list_read.specs.FirstRefusals.{◌>>=◌, each_of}
+use Rattle.list_read.specs.ListHeads.{place, text_of, is_value, first_is_word, has_word_head, behind_one, behind_head}
+use Rattle.edit_script.specs.ScriptForms.{bad, no_more, shift_from, shift_in, shift_of}
 use Rattle.edit_script.specs.Commands.{PlainCommand, PlainStep, add, delete, move, again, edit, undo, redo}
 use Rattle.edit_script.specs.CommandsOf.{standing, added_among, added, deleted_among, deleted, moved_among, moved, ruled, alone, command_of, step_of, commands_of, steps_of}
-use Rattle.edit_script.specs.Grammar.{IsForm, IsShift, IsCommand, adds, deletes, moves, replaces, repeats, IsStep, edits, undoes, redoes}
+use Rattle.edit_script.specs.CommandGrammar.{IsForm, IsShift, IsCommand, adds, deletes, moves, replaces, repeats, IsStep, edits, undoes, redoes}
 
 -- ---- heads
 

@@ -4,7 +4,7 @@ use Rattle.std.specs.Prelude.{Result, Ok, Err}
 use Rattle.std.proofs.lemmas.List.{append-nil, append_assoc}
 use Rattle.sexpr_read.specs.Tree.{Tree}
 use Rattle.edit_script.specs.declared.error.ScriptError.{ScriptError}
-use Rattle.list_read.specs.Answers.{◌>>=◌, each_of}
+use Rattle.list_read.specs.FirstRefusals.{◌>>=◌, each_of}
 
 unfoldable pub read_on : {A : Type 0} → (Tree → Result A ScriptError) → List A → List Tree → Result (List A) ScriptError
 read_on read so_far [] = Ok so_far

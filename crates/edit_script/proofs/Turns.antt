@@ -5,16 +5,16 @@ use Rattle.std.specs.List.{AllZip}
 use Rattle.sexpr_read.specs.declared.place.TextError.{TextError}
 use Rattle.sexpr_read.specs.Tree.{Tree, parts}
 use Rattle.sexpr_read.specs.Spelling.{SpellsAll}
-use Rattle.sexpr_read.specs.Refusals.{refusal_of_all}
+use Rattle.sexpr_read.specs.TreeRefusals.{refusal_of_all}
 use Rattle.edit_script.specs.declared.error.ScriptError.{ScriptError}
 use Rattle.edit_script.specs.declared.error.ScriptError.TheVariants.{Text}
 use Rattle.edit_script.specs.Commands.{PlainCommand, PlainStep, again, edit, undo, redo, as_steps}
-use Rattle.list_read.specs.Answers.{◌>>=◌, each_of}
-use Rattle.list_read.specs.Heads.{place, has_word_head}
-use Rattle.list_read.specs.Texts.{Behind}
-use Rattle.edit_script.specs.Forms.{bad}
+use Rattle.list_read.specs.FirstRefusals.{◌>>=◌, each_of}
+use Rattle.list_read.specs.ListHeads.{place, has_word_head}
+use Rattle.list_read.specs.TextResults.{IsBehindText}
+use Rattle.edit_script.specs.ScriptForms.{bad}
 use Rattle.edit_script.specs.CommandsOf.{is_turn, bad_behind, alone, command_of, step_of, commands_of, steps_of}
-use Rattle.edit_script.specs.Grammar.{IsCommand, IsStep, edits}
+use Rattle.edit_script.specs.CommandGrammar.{IsCommand, IsStep, edits}
 use Rattle.edit_script.specs.ScriptText.{ScriptSays, SaysSteps}
 use Rattle.edit_script.proofs.Accepting.{form_of, head_of, commands_accepted, steps_accepted}
 
@@ -89,7 +89,7 @@ apart (Err x) (Err y) e = let same : x ≡ y = grind (arith, e) in ap (λ (z : S
 -- ---- what a text says
 
 abbrev Told : {A : Type 0} → (List ℕ → Tree → Result A ScriptError) → List ℕ → Option TextError → Result A ScriptError → Type 0
-Told of text r answer = Behind Text (SpellsAll text) (λ tree told. told ≡ of text tree) r answer
+Told of text r answer = IsBehindText Text (SpellsAll text) (λ tree told. told ≡ of text tree) r answer
 
 alike_after : (text : List ℕ) → ((tree : Tree) → SpellsAll text tree → NoTurns (parts tree)) → (r : Option TextError) (answer : Result (List PlainCommand) ScriptError)
     → Told commands_of text r answer ↔ Told steps_of text r (as_steps answer)
@@ -140,7 +140,7 @@ stopped : (turn : Tree) (x : PlainCommand) (r : Result (List PlainCommand) Scrip
 stopped turn x (Ok cs) = refl
 stopped turn x (Err e) = refl
 
-up_to : (script : List ℕ) (front rest : List Tree) (turn : Tree) → is_turn turn ≡ true → each_of (command_of script) (front ++ turn ∷ rest) ≡ stops turn (each_of (command_of script) front)
+up_to : (script : List ℕ) (prefix rest : List Tree) (turn : Tree) → is_turn turn ≡ true → each_of (command_of script) (prefix ++ turn ∷ rest) ≡ stops turn (each_of (command_of script) prefix)
 unfolding each_of
 up_to script [] rest turn e = rw (no_command script turn e) refl
 up_to script (t ∷ ts) rest turn e = by_first (command_of script t) (up_to script ts rest turn e)
@@ -157,9 +157,9 @@ either_way : (turn : Tree) (r : Result (List PlainCommand) ScriptError) → stop
 either_way turn (Ok cs) = refl
 either_way turn (Err e) = refl
 
-pub turned : (script : List ℕ) (root : Tree) (front rest : List Tree) (turn : Tree) → parts root ≡ front ++ turn ∷ rest → NoTurns front → is_turn turn ≡ true
-    → commands_of script root ≡ bad_behind turn (each_of (step_of script) front)
+pub turned : (script : List ℕ) (root : Tree) (prefix rest : List Tree) (turn : Tree) → parts root ≡ prefix ++ turn ∷ rest → NoTurns prefix → is_turn turn ≡ true
+    → commands_of script root ≡ bad_behind turn (each_of (step_of script) prefix)
 unfolding commands_of
-turned script root front rest turn p none e =
-    ap (each_of (command_of script)) p ∙ up_to script front rest turn e ∙ either_way turn (each_of (command_of script) front)
-    ∙ ap (stops_steps turn) (sym (steps_are script front none))
+turned script root prefix rest turn p none e =
+    ap (each_of (command_of script)) p ∙ up_to script prefix rest turn e ∙ either_way turn (each_of (command_of script) prefix)
+    ∙ ap (stops_steps turn) (sym (steps_are script prefix none))

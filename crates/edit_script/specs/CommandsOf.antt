@@ -12,9 +12,9 @@ use Rattle.std.specs.Prelude.{ℕ, Bool, ◌||◌, List, [], ◌∷◌, codes, s
 use Rattle.sexpr_read.specs.Tree.{Tree, span, parts}
 use Rattle.edit_script.specs.declared.error.ScriptError.{ScriptError}
 use Rattle.edit_script.specs.Commands.{PlainCommand, PlainStep, add, delete, move, rules, again, edit, undo, redo}
-use Rattle.list_read.specs.Answers.{◌>>=◌, each_of}
-use Rattle.list_read.specs.Heads.{place, text_of, has_word_head, behind_head}
-use Rattle.edit_script.specs.Forms.{bad, as_atom, as_list, no_more, shift_of}
+use Rattle.list_read.specs.FirstRefusals.{◌>>=◌, each_of}
+use Rattle.list_read.specs.ListHeads.{place, text_of, has_word_head, behind_head}
+use Rattle.edit_script.specs.ScriptForms.{bad, as_atom, as_list, no_more, shift_of}
 
 -- the part of the script that the tree stands on
 abbrev pub standing : List ℕ → Tree → List ℕ

@@ -38,14 +38,14 @@ abbrev pub AreShallow : List PlainCommand → Type 0
 AreShallow commands = All IsShallowIfAdded commands
 
 -- at most 10^12 from 0
-abbrev pub IsNear : ℤ → Type 0
-IsNear n = unsigned_abs n ≤ 1000000000000
+abbrev pub IsShiftInRange : ℤ → Type 0
+IsShiftInRange n = unsigned_abs n ≤ 1000000000000
 
 -- a move is near either way
 abbrev pub IsNearIfMoved : PlainCommand → Type 0
 IsNearIfMoved (add text at) = ⊤
 IsNearIfMoved (delete name at) = ⊤
-IsNearIfMoved (move name dx dy at) = IsNear dx × IsNear dy
+IsNearIfMoved (move name dx dy at) = IsShiftInRange dx × IsShiftInRange dy
 IsNearIfMoved (rules text at) = ⊤
 IsNearIfMoved (again at) = ⊤
 
@@ -105,8 +105,8 @@ FormsStandIn size [] = Unit {0}
 FormsStandIn size (t ∷ ts) = FormStandsIn size t × FormsStandIn size ts
 
 -- the forms together stand on no more bytes than that
-abbrev pub HaveRoom : ℕ → List Tree → Type 0
-HaveRoom size forms = sum_by size_of forms ≤ size
+abbrev pub HaveCapacity : ℕ → List Tree → Type 0
+HaveCapacity size forms = sum_by size_of forms ≤ size
 
 -- a list is shallow where it stands alone
 abbrev pub IsShallowIfList : List ℕ → Tree → Type 0

@@ -1,8 +1,8 @@
 pub mod Commands
 pub mod CommandsOf
 pub mod Fits
-pub mod Forms
-pub mod Grammar
-pub mod Reasons
+pub mod ScriptForms
+pub mod CommandGrammar
+pub mod ScriptReasons
 pub mod ScriptText
-pub mod Views
+pub mod ScriptValues

@@ -1,6 +1,6 @@
 -- What the text of a script says: the commands or steps of its tree, or why there are none.
 use Rattle.std.specs.Prelude.{◌≡◌, ℕ, List, Result}
-use Rattle.list_read.specs.Texts.{OfForms}
+use Rattle.list_read.specs.TextResults.{OfForms}
 use Rattle.edit_script.specs.declared.error.ScriptError.{ScriptError}
 use Rattle.edit_script.specs.declared.error.ScriptError.TheVariants.{Text}
 use Rattle.edit_script.specs.Commands.{PlainCommand, PlainStep}

@@ -19,13 +19,13 @@ pub enum ScriptError {
 }
 
 impl HasReason for ScriptError {
-    ghost use Rattle.edit_script.specs.Reasons.{script_reason};
+    ghost use Rattle.edit_script.specs.ScriptReasons.{script_reason};
 
     ghost reason_of = { script_reason };
 
     ghost depth = { 2 };
 
-    /// What it is called, its number and its byte of the text; behind `Text` and 1 those of the text's refusal. Want of
+    /// What it is called, its number and its byte of the text; behind `Text` and 1 those of the text's refusal. Running out of
     /// memory has no number, which is written 0, and no place.
     fn reason(&self) -> Reason {
         match self {
@@ -61,7 +61,7 @@ impl<T: Drop> From<AllocFailed<T>> for ScriptError {
 impl fmt::Display for ScriptError {
     ghost use Rattle.std.specs.Prelude.{Some};
     ghost use Rattle.plain_types.specs.Reasons.{written};
-    ghost use Rattle.edit_script.specs.Reasons.{script_reason};
+    ghost use Rattle.edit_script.specs.ScriptReasons.{script_reason};
 
     ghost output = { λ e. Some (written (script_reason e)) };
 

@@ -1,11 +1,11 @@
 //! What the parts of a form behind its head have to be: an atom, a list, a number, or none.
 
 ghost use Rattle.std.specs.Prelude.{◌≡◌, IfOk};
-ghost use Rattle.sexpr_read.specs.Views.{tree_of, trees_left};
-ghost use Rattle.list_read.specs.Heads.{place};
-ghost use Rattle.list_read.specs.Nodes.{tree_in};
-ghost use Rattle.edit_script.specs.Forms.{as_atom, as_list, no_more, shift_of};
-ghost use Rattle.edit_script.specs.Fits.{IsNear};
+ghost use Rattle.sexpr_read.specs.TreeViews.{tree_of, trees_left};
+ghost use Rattle.list_read.specs.ListHeads.{place};
+ghost use Rattle.list_read.specs.FoundNodes.{tree_in};
+ghost use Rattle.edit_script.specs.ScriptForms.{as_atom, as_list, no_more, shift_of};
+ghost use Rattle.edit_script.specs.Fits.{IsShiftInRange};
 
 use crate::command::Nm;
 use crate::error::ScriptError;
@@ -54,10 +54,10 @@ pub(crate) fn no_more(parts: Children<'_, '_>) -> Result<(), ScriptError>
 }
 
 /// A number of millimetres, in nanometres.
-#[tactic(auto, unfolding(crate::specs::Forms::shift_of))]
+#[tactic(auto, unfolding(crate::specs::ScriptForms::shift_of))]
 pub(crate) fn shift_of(node: Node<'_, '_>) -> Result<Nm, ScriptError>
     ensures value { result ≡ shift_of (tree_of node.entry) }
-    ensures near { IfOk result IsNear }
+    ensures near { IfOk result IsShiftInRange }
 {
     let Some(text) = node.atom() else {
         return Err(bad(node));

@@ -3,12 +3,12 @@
 ghost use Rattle.std.specs.Prelude.{◌≡◌, ◌↔◌, ℕ, true, false, List, ◌∷◌, ◌++◌, All, map, Result, Ok};
 ghost use Rattle.std.specs.List.{AllZip};
 ghost use Rattle.sexpr_read.specs.Tree.{Tree, parts};
-ghost use Rattle.list_read.specs.Answers.{each_of};
+ghost use Rattle.list_read.specs.FirstRefusals.{each_of};
 ghost use Rattle.edit_script.specs.declared.error.ScriptError.{ScriptError};
 ghost use Rattle.sexpr_read.specs.Spelling.{SpellsAll};
 ghost use Rattle.edit_script.specs.Commands.{PlainCommand, PlainStep, edit, as_steps};
 ghost use Rattle.edit_script.specs.CommandsOf.{is_turn, bad_behind, step_of, commands_of, steps_of};
-ghost use Rattle.edit_script.specs.Grammar.{IsCommand, IsStep};
+ghost use Rattle.edit_script.specs.CommandGrammar.{IsCommand, IsStep};
 ghost use Rattle.edit_script.specs.ScriptText.{ScriptSays, SaysSteps};
 
 use sexpr_read::laws::one_tree;
@@ -43,8 +43,8 @@ pub fn steps_and_commands()
     ensures accepted { (text : List ℕ) (commands : List PlainCommand)
         → ScriptSays text (Ok commands)
         ↔ SaysSteps text (Ok (map (λ command. edit command) commands)) }
-    ensures turned { (script : List ℕ) (root : Tree) (front rest : List Tree) (turn : Tree)
-        → parts root ≡ front ++ turn ∷ rest → All (λ form. is_turn form ≡ false) front
+    ensures turned { (script : List ℕ) (root : Tree) (prefix rest : List Tree) (turn : Tree)
+        → parts root ≡ prefix ++ turn ∷ rest → All (λ form. is_turn form ≡ false) prefix
         → is_turn turn ≡ true
-        → commands_of script root ≡ bad_behind turn (each_of (step_of script) front) }
+        → commands_of script root ≡ bad_behind turn (each_of (step_of script) prefix) }
 {}

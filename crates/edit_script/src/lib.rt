@@ -27,7 +27,7 @@ use sexpr_read::{TextError, parse_all};
 use std::alloc::Global;
 
 /// The commands of the text of a script, of at most 33,554,432 bytes, in their order, or the first reason why there are none, with its
-/// place. The reasons are those of [`ScriptError`], exactly where `specs/ScriptText` has them; want of memory alone is free. Each
+/// place. The reasons are those of [`ScriptError`], exactly where `specs/ScriptText` has them; running out of memory alone is free. Each
 /// command fits the calls that carry commands out, by `Fits` of `specs/Fits`. Beside that no added list has more than 63 levels, no move
 /// is by more than 10^12 nanometres, and all added lists together have no more bytes than the script.
 #[tactic(auto, unfolding(crate::specs::CommandsOf::commands_of))]
@@ -57,8 +57,8 @@ pub fn read_script<'t>(alloc: Global, text: &'t [u8]) -> Result<Vec<Command<'t>>
 
 /// The steps of the text of a script in which `(undo)` and `(redo)` are forms too, of at most 33,554,432 bytes, in their order, or the
 /// first reason why there are none, with its place. The reasons are those of [`ScriptError`], exactly where `specs/ScriptText` has them;
-/// want of memory alone is free. Each step fits the calls that carry steps out, by `StepFits` of `specs/Fits`. Beside that no added list
-/// has more than 63 levels, no move is by more than 10^12 nanometres, and all added lists together have no more bytes than the script.
+/// running out of memory alone is free. Each step fits the calls that carry steps out, by `StepFits` of `specs/Fits`. Beside that no added
+/// list has more than 63 levels, no move is by more than 10^12 nanometres, and all added lists together have no more bytes than the script.
 /// How this reader and `read_script` agree is a law, `steps_and_commands`.
 #[tactic(auto, unfolding(crate::specs::CommandsOf::steps_of))]
 pub fn read_steps<'t>(alloc: Global, text: &'t [u8]) -> Result<Vec<Step<'t>>, ScriptError>

@@ -3,13 +3,13 @@
 ghost use Rattle.std.specs.Prelude.{◌≡◌, ◌≤◌, length, map, sum_by, IfOk, All};
 ghost use Rattle.plain_types.specs.Limits.{IsInText, IsReadable};
 ghost use Rattle.sexpr_read.specs.Tree.{parts};
-ghost use Rattle.sexpr_read.specs.Views.{tree_of, trees_left};
-ghost use Rattle.list_read.specs.Heads.{place};
-ghost use Rattle.list_read.specs.Answers.{each_of};
+ghost use Rattle.sexpr_read.specs.TreeViews.{tree_of, trees_left};
+ghost use Rattle.list_read.specs.ListHeads.{place};
+ghost use Rattle.list_read.specs.FirstRefusals.{each_of};
 ghost use Rattle.edit_script.specs.Commands.{again, plain_command, plain_step};
 ghost use Rattle.edit_script.specs.CommandsOf.{standing, added, deleted, moved, alone, command_of, step_of};
-ghost use Rattle.edit_script.specs.Fits.{IsRead, IsReadStep, added_by, added_by_step, size_of, StandsIn, FormStandsIn, FormsStandIn, HaveRoom, AllShallow, FormsShallow};
-ghost use Rattle.edit_script.specs.Views.{Gives};
+ghost use Rattle.edit_script.specs.Fits.{IsRead, IsReadStep, added_by, added_by_step, size_of, StandsIn, FormStandsIn, FormsStandIn, HaveCapacity, AllShallow, FormsShallow};
+ghost use Rattle.edit_script.specs.ScriptValues.{Gives};
 
 use crate::command::{Command, Step};
 use crate::error::ScriptError;
@@ -29,7 +29,7 @@ fn standing<'t>(text: &'t [u8], node: Node<'_, '_>) -> &'t [u8]
 }
 
 /// `(add LIST)`.
-#[tactic(auto, unfolding(crate::specs::CommandsOf::added, list_read::specs::Heads::behind_head))]
+#[tactic(auto, unfolding(crate::specs::CommandsOf::added, list_read::specs::ListHeads::behind_head))]
 fn added<'t>(text: &'t [u8], form: Node<'_, '_>) -> Result<Command<'t>, ScriptError>
     requires size { IsReadable text.now }
     requires form { FormStandsIn (length text.now) (tree_of form) }
@@ -183,7 +183,7 @@ pub(crate) fn commands_in<'t>(
     requires size { IsReadable text.now }
     requires forms { FormsStandIn (length text.now) (trees_left forms) }
     requires shallow { FormsShallow text.now (trees_left forms) }
-    requires room { HaveRoom (length text.now) (trees_left forms) }
+    requires capacity { HaveCapacity (length text.now) (trees_left forms) }
     ensures read { Gives (λ commands. map plain_command commands.items) result
         (each_of (command_of text.entry.now) (trees_left forms.entry)) }
     ensures known { IfOk result (λ commands. All IsRead (map plain_command commands.items)) }
@@ -210,7 +210,7 @@ pub(crate) fn steps_in<'t>(
     requires size { IsReadable text.now }
     requires forms { FormsStandIn (length text.now) (trees_left forms) }
     requires shallow { FormsShallow text.now (trees_left forms) }
-    requires room { HaveRoom (length text.now) (trees_left forms) }
+    requires capacity { HaveCapacity (length text.now) (trees_left forms) }
     ensures read { Gives (λ steps. map plain_step steps.items) result
         (each_of (step_of text.entry.now) (trees_left forms.entry)) }
     ensures known { IfOk result (λ steps. All IsReadStep (map plain_step steps.items)) }

@@ -7,7 +7,7 @@ use Rattle.exact_dec.specs.declared.DecError.{DecError}
 use Rattle.exact_dec.specs.declared.DecError.TheVariants.{TooWide}
 use Rattle.exact_dec.specs.Decimal.{Spelling, Fraction, signed, value, times, cut, lowered}
 use Rattle.exact_dec.specs.Computed.{near, answer_of}
-use Rattle.exact_dec.specs.Reading.{is_long, is_far, no_more}
+use Rattle.exact_dec.specs.DecimalAnswers.{is_long, is_far, no_more}
 use Rattle.exact_dec.specs.Spelled.{IsQuotient, top, bottom, half}
 use Rattle.exact_dec.proofs.Digits.{pow10_pos}
 use Rattle.exact_dec.proofs.Rounding.{times_signed, abs_signed, cut_signed, quotient_div, near_once, near_is, half_near}

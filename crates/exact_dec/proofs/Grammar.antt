@@ -6,20 +6,20 @@ use Rattle.std.proofs.lemmas.List.{append_assoc, append-nil, length-append}
 use Rattle.std.specs.Char.{is_ascii_digit}
 use Rattle.std.specs.Str.{all_ascii_digits}
 use Rattle.exact_dec.specs.Decimal.{Spelling, IsDigits, IsSign, unsigned, plus, minus, IsMantissa, no_point, point_last, point_inside, point_first, IsPower, no_power, power, Spells}
-use Rattle.exact_dec.specs.Computed.{has_minus, after_sign, front_digits, after_digits, point_digits, after_point, is_digits, power_of, with_power, parts_of}
+use Rattle.exact_dec.specs.Computed.{has_minus, after_sign, prefix_digits, after_digits, point_digits, after_point, is_digits, power_of, with_power, parts_of}
 use Rattle.exact_dec.specs.Spelled.{HasDigits}
 use Rattle.exact_dec.proofs.Digits.{digit_at}
 
 pub some_same : {A : Type 0} (a b : A) → Some a ≡ Some b → a ≡ b
 some_same a b h = cc
 
-front_are_digits : (text : List ℕ) → all_ascii_digits (front_digits text) ≡ true
-front_are_digits [] = refl
-front_are_digits (c ∷ cs) = elim (is_ascii_digit c) as (λ b. is_ascii_digit c ≡ b → all_ascii_digits (cond b (c ∷ front_digits cs) []) ≡ true) [ true ↦ λ h. both_true h (front_are_digits cs) | false ↦ λ h. refl ] refl
+prefix_are_digits : (text : List ℕ) → all_ascii_digits (prefix_digits text) ≡ true
+prefix_are_digits [] = refl
+prefix_are_digits (c ∷ cs) = elim (is_ascii_digit c) as (λ b. is_ascii_digit c ≡ b → all_ascii_digits (cond b (c ∷ prefix_digits cs) []) ≡ true) [ true ↦ λ h. both_true h (prefix_are_digits cs) | false ↦ λ h. refl ] refl
 
 point_are_digits : (text : List ℕ) → all_ascii_digits (point_digits text) ≡ true
 point_are_digits [] = refl
-point_are_digits (c ∷ cs) = elim (c == 46) as (λ b. all_ascii_digits (cond b (front_digits cs) []) ≡ true) [ true ↦ front_are_digits cs | false ↦ refl ]
+point_are_digits (c ∷ cs) = elim (c == 46) as (λ b. all_ascii_digits (cond b (prefix_digits cs) []) ≡ true) [ true ↦ prefix_are_digits cs | false ↦ refl ]
 
 -- what `with_power` put together
 abbrev pub parts_from : Bool → List ℕ → List ℕ → Bool × List ℕ → Spelling
@@ -43,8 +43,8 @@ unfolding parts_of
 parts_digits text p h =
     let body = after_sign text in
     let rest = after_digits body in
-    let found = with_power_some (has_minus text) (front_digits body) (point_digits rest) (power_of (after_point rest)) p h in
-    subst HasDigits found.3 (record { whole = front_are_digits body; fraction = point_are_digits rest; exponent = power_digits (after_point rest) found.0 found.1 })
+    let found = with_power_some (has_minus text) (prefix_digits body) (point_digits rest) (power_of (after_point rest)) p h in
+    subst HasDigits found.3 (record { whole = prefix_are_digits body; fraction = point_are_digits rest; exponent = power_digits (after_point rest) found.0 found.1 })
 
 -- ---- from the function to the relation
 
@@ -52,13 +52,13 @@ abbrev pub SignedBy : List ℕ → Type 0
 SignedBy text = (s : List ℕ) × (text ≡ s ++ after_sign text) × IsSign s (has_minus text)
 
 -- the first byte is no sign
-abbrev pub IsPlainFront : List ℕ → Type 0
-IsPlainFront text = (after_sign text ≡ text) × (has_minus text ≡ false)
+abbrev pub IsPlainPrefix : List ℕ → Type 0
+IsPlainPrefix text = (after_sign text ≡ text) × (has_minus text ≡ false)
 
-plain_other : (c : ℕ) (cs : List ℕ) → (c == 43) ≡ false → (c == 45) ≡ false → IsPlainFront (c ∷ cs)
+plain_other : (c : ℕ) (cs : List ℕ) → (c == 43) ≡ false → (c == 45) ≡ false → IsPlainPrefix (c ∷ cs)
 plain_other c cs h k = (ap (λ b. cond (b || (c == 45)) cs (c ∷ cs)) h ∙ ap (λ b. cond b cs (c ∷ cs)) k, k)
 
-signed_other : (c : ℕ) (cs : List ℕ) → IsPlainFront (c ∷ cs) → SignedBy (c ∷ cs)
+signed_other : (c : ℕ) (cs : List ℕ) → IsPlainPrefix (c ∷ cs) → SignedBy (c ∷ cs)
 signed_other c cs h = ([], sym h.0, subst (IsSign []) (sym h.1) unsigned)
 
 sign_of : (text : List ℕ) → SignedBy text
@@ -72,9 +72,9 @@ sign_of (c ∷ cs) =
       ] refl
     ] refl
 
-digits_parted : (text : List ℕ) → text ≡ front_digits text ++ after_digits text
+digits_parted : (text : List ℕ) → text ≡ prefix_digits text ++ after_digits text
 digits_parted [] = refl
-digits_parted (c ∷ cs) = elim (is_ascii_digit c) as (λ b. c ∷ cs ≡ cond b (c ∷ front_digits cs) [] ++ cond b (after_digits cs) (c ∷ cs)) [ true ↦ ap (λ x. c ∷ x) (digits_parted cs) | false ↦ refl ]
+digits_parted (c ∷ cs) = elim (is_ascii_digit c) as (λ b. c ∷ cs ≡ cond b (c ∷ prefix_digits cs) [] ++ cond b (after_digits cs) (c ∷ cs)) [ true ↦ ap (λ x. c ∷ x) (digits_parted cs) | false ↦ refl ]
 
 abbrev pub MantissaOf : List ℕ → List ℕ → List ℕ → List ℕ → Type 0
 MantissaOf w f text after = (m : List ℕ) × (w ++ text ≡ m ++ after) × IsMantissa m w f
@@ -87,8 +87,8 @@ pointed (x ∷ xs) (y ∷ ys) after cs is dw df some = ((x ∷ xs) ++ (46 ∷ (y
 mantissa_of : (w rest : List ℕ) → all_ascii_digits w ≡ true → nat_lt 0 (length (w ++ point_digits rest)) ≡ true → MantissaOf w (point_digits rest) rest (after_point rest)
 mantissa_of w [] d some = (w, refl, no_point refl (d, let h : 0 < length (w ++ []) = ltb-true 0 (length (w ++ [])) some in subst (λ (x : List ℕ). 0 < length x) (append-nil w) h) refl)
 mantissa_of w (c ∷ cs) d some =
-    elim (c == 46) as (λ b. (c == 46) ≡ b → nat_lt 0 (length (w ++ cond b (front_digits cs) [])) ≡ true → MantissaOf w (cond b (front_digits cs) []) (c ∷ cs) (cond b (after_digits cs) (c ∷ cs))) [
-      | true ↦ λ e h. subst (λ x. MantissaOf w (front_digits cs) (x ∷ cs) (after_digits cs)) (sym (eqb-true c 46 e)) (pointed w (front_digits cs) (after_digits cs) cs (digits_parted cs) d (front_are_digits cs) h)
+    elim (c == 46) as (λ b. (c == 46) ≡ b → nat_lt 0 (length (w ++ cond b (prefix_digits cs) [])) ≡ true → MantissaOf w (cond b (prefix_digits cs) []) (c ∷ cs) (cond b (after_digits cs) (c ∷ cs))) [
+      | true ↦ λ e h. subst (λ x. MantissaOf w (prefix_digits cs) (x ∷ cs) (after_digits cs)) (sym (eqb-true c 46 e)) (pointed w (prefix_digits cs) (after_digits cs) cs (digits_parted cs) d (prefix_are_digits cs) h)
       | false ↦ λ e h. (w, refl, no_point refl (d, let k : 0 < length (w ++ []) = ltb-true 0 (length (w ++ [])) h in subst (λ (x : List ℕ). 0 < length x) (append-nil w) k) refl)
     ] refl some
 
@@ -117,9 +117,9 @@ unfolding parts_of
 spells text p h =
     let body = after_sign text in
     let rest = after_digits body in
-    let found = with_power_some (has_minus text) (front_digits body) (point_digits rest) (power_of (after_point rest)) p h in
+    let found = with_power_some (has_minus text) (prefix_digits body) (point_digits rest) (power_of (after_point rest)) p h in
     let s = sign_of text in
-    let m = mantissa_of (front_digits body) rest (front_are_digits body) found.2 in
+    let m = mantissa_of (prefix_digits body) rest (prefix_are_digits body) found.2 in
     subst (Spells text) found.3 (record {
       sign = s.0;
       mantissa = m.0;
@@ -132,36 +132,36 @@ spells text p h =
 
 -- ---- from the relation to the function
 
-digit_plain : (c : ℕ) (cs : List ℕ) → is_ascii_digit c ≡ true → IsPlainFront (c ∷ cs)
+digit_plain : (c : ℕ) (cs : List ℕ) → is_ascii_digit c ≡ true → IsPlainPrefix (c ∷ cs)
 digit_plain c cs h =
     let low : 48 ≤ c = (digit_at (c ∷ []) 0 (both_true h refl) (omega arith)).0 in
     plain_other c cs (ne_eqb c 43 (λ e. omega arith)) (ne_eqb c 45 (λ e. omega arith))
 
-digits_plain : (ds rest : List ℕ) → IsDigits ds → IsPlainFront (ds ++ rest)
+digits_plain : (ds rest : List ℕ) → IsDigits ds → IsPlainPrefix (ds ++ rest)
 digits_plain [] rest h = absurd (omega (arith, h.1))
 digits_plain (c ∷ cs) rest h = digit_plain c (cs ++ rest) (and_parts (is_ascii_digit c) (all_ascii_digits cs) h.0).0
 
-mantissa_plain : (m w f rest : List ℕ) → IsMantissa m w f → IsPlainFront (m ++ rest)
-mantissa_plain m w f rest (no_point e d z) = subst (λ x. IsPlainFront (x ++ rest)) (sym e) (digits_plain w rest d)
-mantissa_plain m w f rest (point_last e d z) = subst (λ x. IsPlainFront (x ++ rest)) (sym e) (subst IsPlainFront (sym (append_assoc w (46 ∷ []) rest)) (digits_plain w (46 ∷ rest) d))
-mantissa_plain m w f rest (point_inside e d z) = subst (λ x. IsPlainFront (x ++ rest)) (sym e) (subst IsPlainFront (sym (append_assoc w (46 ∷ f) rest)) (digits_plain w ((46 ∷ f) ++ rest) d))
-mantissa_plain m w f rest (point_first e d z) = subst (λ x. IsPlainFront (x ++ rest)) (sym e) (refl, refl)
+mantissa_plain : (m w f rest : List ℕ) → IsMantissa m w f → IsPlainPrefix (m ++ rest)
+mantissa_plain m w f rest (no_point e d z) = subst (λ x. IsPlainPrefix (x ++ rest)) (sym e) (digits_plain w rest d)
+mantissa_plain m w f rest (point_last e d z) = subst (λ x. IsPlainPrefix (x ++ rest)) (sym e) (subst IsPlainPrefix (sym (append_assoc w (46 ∷ []) rest)) (digits_plain w (46 ∷ rest) d))
+mantissa_plain m w f rest (point_inside e d z) = subst (λ x. IsPlainPrefix (x ++ rest)) (sym e) (subst IsPlainPrefix (sym (append_assoc w (46 ∷ f) rest)) (digits_plain w ((46 ∷ f) ++ rest) d))
+mantissa_plain m w f rest (point_first e d z) = subst (λ x. IsPlainPrefix (x ++ rest)) (sym e) (refl, refl)
 
-sign_read : (s : List ℕ) (negative : Bool) (body : List ℕ) → IsSign s negative → IsPlainFront body → (after_sign (s ++ body) ≡ body) × (has_minus (s ++ body) ≡ negative)
+sign_read : (s : List ℕ) (negative : Bool) (body : List ℕ) → IsSign s negative → IsPlainPrefix body → (after_sign (s ++ body) ≡ body) × (has_minus (s ++ body) ≡ negative)
 sign_read _ _ body unsigned h = h
 sign_read _ _ body plus h = (refl, refl)
 sign_read _ _ body minus h = (refl, refl)
 
 -- no digit stands at the front
 abbrev pub Stops : List ℕ → Type 0
-Stops rest = (front_digits rest ≡ []) × (after_digits rest ≡ rest)
+Stops rest = (prefix_digits rest ≡ []) × (after_digits rest ≡ rest)
 
-digits_read : (ds rest : List ℕ) → all_ascii_digits ds ≡ true → Stops rest → (front_digits (ds ++ rest) ≡ ds) × (after_digits (ds ++ rest) ≡ rest)
+digits_read : (ds rest : List ℕ) → all_ascii_digits ds ≡ true → Stops rest → (prefix_digits (ds ++ rest) ≡ ds) × (after_digits (ds ++ rest) ≡ rest)
 digits_read [] rest d stops = stops
 digits_read (c ∷ cs) rest d stops =
     let parts = and_parts (is_ascii_digit c) (all_ascii_digits cs) d in
     let more = digits_read cs rest parts.1 stops in (
-      ap (λ b. cond b (c ∷ front_digits (cs ++ rest)) []) parts.0 ∙ ap (λ x. c ∷ x) more.0,
+      ap (λ b. cond b (c ∷ prefix_digits (cs ++ rest)) []) parts.0 ∙ ap (λ x. c ∷ x) more.0,
       ap (λ b. cond b (after_digits (cs ++ rest)) (c ∷ (cs ++ rest))) parts.0 ∙ more.1,
     )
 
@@ -175,7 +175,7 @@ power_stops e lowers x (power letter s (inr l) sign d is) = subst StopsAll (sym 
 
 -- what the function finds in a text
 abbrev pub Found : List ℕ → List ℕ → List ℕ → List ℕ → Type 0
-Found w f e body = (front_digits body ≡ w) × (point_digits (after_digits body) ≡ f) × (after_point (after_digits body) ≡ e)
+Found w f e body = (prefix_digits body ≡ w) × (point_digits (after_digits body) ≡ f) × (after_point (after_digits body) ≡ e)
 
 point_read : (w f e : List ℕ) → all_ascii_digits w ≡ true → all_ascii_digits f ≡ true → StopsAll e → Found w f e (w ++ (46 ∷ (f ++ e)))
 point_read w f e dw df stops =
@@ -199,7 +199,7 @@ digits_are ds d = both_true d.0 (lt-ltb 0 (length ds) d.1)
 
 power_read_at : (letter : ℕ) (s x : List ℕ) (lowers : Bool) → ((letter == 101) || (letter == 69)) ≡ true → IsSign s lowers → IsDigits x → power_of (letter ∷ (s ++ x)) ≡ Some (lowers, x)
 power_read_at letter s x lowers l sign d =
-    let plain : IsPlainFront x = subst IsPlainFront (append-nil x) (digits_plain x [] d) in
+    let plain : IsPlainPrefix x = subst IsPlainPrefix (append-nil x) (digits_plain x [] d) in
     let read = sign_read s lowers x sign plain in
     let test : (((letter == 101) || (letter == 69)) && is_digits (after_sign (s ++ x))) ≡ true = both_true l (ap is_digits read.0 ∙ digits_are x d) in
     ap (λ b. cond b (Some (has_minus (s ++ x), after_sign (s ++ x))) None) test ∙ (ap (λ b. Some (b, after_sign (s ++ x))) read.1 ∙ ap (λ y. Some (lowers, y)) read.0)
@@ -224,8 +224,8 @@ spelled_once text p h =
     let is_minus : has_minus text ≡ p.negative = ap has_minus h.joined ∙ signs.1 in
     let found = mantissa_read h.mantissa p.whole p.fraction h.power (power_stops h.power p.lowers p.exponent h.is_power) h.is_mantissa in
     let is_power : power_of (after_point (after_digits (after_sign text))) ≡ Some (p.lowers, p.exponent) = ap (λ x. power_of (after_point (after_digits x))) is_body ∙ (ap power_of found.2 ∙ power_read h.power p.lowers p.exponent h.is_power) in
-    ap (λ x. with_power x (front_digits (after_sign text)) (point_digits (after_digits (after_sign text))) (power_of (after_point (after_digits (after_sign text))))) is_minus
-    ∙ (ap (λ x. with_power p.negative x (point_digits (after_digits (after_sign text))) (power_of (after_point (after_digits (after_sign text))))) (ap front_digits is_body ∙ found.0)
+    ap (λ x. with_power x (prefix_digits (after_sign text)) (point_digits (after_digits (after_sign text))) (power_of (after_point (after_digits (after_sign text))))) is_minus
+    ∙ (ap (λ x. with_power p.negative x (point_digits (after_digits (after_sign text))) (power_of (after_point (after_digits (after_sign text))))) (ap prefix_digits is_body ∙ found.0)
     ∙ (ap (λ x. with_power p.negative p.whole x (power_of (after_point (after_digits (after_sign text))))) (ap (λ x. point_digits (after_digits x)) is_body ∙ found.1)
     ∙ (ap (λ x. with_power p.negative p.whole p.fraction x) is_power
     ∙ ap (λ b. cond b (Some p) None) (mantissa_some h.mantissa p.whole p.fraction h.is_mantissa))))

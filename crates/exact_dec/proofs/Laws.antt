@@ -4,9 +4,9 @@ use Rattle.std.specs.Cmp.Derive.{both_true}
 use Rattle.std.proofs.lemmas.Bool.{and_parts, leb-true, le-leb}
 use Rattle.exact_dec.specs.declared.DecError.{DecError}
 use Rattle.exact_dec.specs.declared.DecError.TheVariants.{BadNumber, TooWide}
-use Rattle.exact_dec.specs.Decimal.{Spelling, Fraction, value, times, cut, number, IsNear}
+use Rattle.exact_dec.specs.Decimal.{Spelling, Fraction, value, times, cut, number, IsRounded}
 use Rattle.exact_dec.specs.Computed.{near, is_digits, parts_of, answer_of, mm_cut_answer, mm_near_answer, ratio_near_answer, count_answer}
-use Rattle.exact_dec.specs.Reading.{Reads, within, too_wide, bad_number, Gives, IsCut, IsPlain, plain, is_long, is_far, is_no_half, no_more, MmCut, MmNear, RatioNear, CountGives, Count}
+use Rattle.exact_dec.specs.DecimalAnswers.{Reads, within, too_wide, bad_number, Gives, IsCut, IsPlain, plain, is_long, is_far, is_no_half, no_more, MmCut, MmNear, RatioNear, CountGives, Count}
 use Rattle.exact_dec.proofs.Answering.{bottom_some}
 use Rattle.exact_dec.proofs.Grammar.{spells, spelled_once, some_same, digits_from, digits_are}
 use Rattle.exact_dec.proofs.Rounding.{near_is, near_once}
@@ -70,7 +70,7 @@ plain_from text unit _ _ (plain p h) = (spelled_once text p h, refl)
 cut_once : (f : Fraction) (n m : ℤ) → IsCut f n → IsCut f m → n ≡ m
 cut_once f n m a b = a ∙ sym b
 
-pub near_rounds : (unit : ℤ) (p : Spelling) → IsNear (times unit (value p)) (near (times unit (value p)))
+pub near_rounds : (unit : ℤ) (p : Spelling) → IsRounded (times unit (value p)) (near (times unit (value p)))
 near_rounds unit p = near_is (times unit (value p)) (bottom_some p)
 
 -- the same of an answer that is known to be the function's
@@ -85,12 +85,12 @@ mm_cut_law text a e = along a (answer_of text (pos 1000000) cut no_more (parts_o
 pub mm_near_law : (text : List ℕ) (a : Result ℤ DecError) → a ≡ mm_near_answer text → (r : Result ℤ DecError) → (a ≡ r) ↔ MmNear text r
 unfolding mm_near_answer
 mm_near_law text a e = along a (answer_of text (pos 1000000) near no_more (parts_of text)) e
-    (answer_law text (pos 1000000) (parts_of text) (IsPlain text (pos 1000000)) IsNear near no_more (plain_to text (pos 1000000)) (plain_from text (pos 1000000)) (near_rounds (pos 1000000)) near_once)
+    (answer_law text (pos 1000000) (parts_of text) (IsPlain text (pos 1000000)) IsRounded near no_more (plain_to text (pos 1000000)) (plain_from text (pos 1000000)) (near_rounds (pos 1000000)) near_once)
 
 pub ratio_near_law : (text : List ℕ) (whole : ℤ) (a : Result ℤ DecError) → a ≡ ratio_near_answer text whole → (r : Result ℤ DecError) → (a ≡ r) ↔ RatioNear text whole r
 unfolding ratio_near_answer
 ratio_near_law text whole a e = along a (answer_of text whole near is_no_half (parts_of text)) e
-    (answer_law text whole (parts_of text) (IsPlain text whole) IsNear near is_no_half (plain_to text whole) (plain_from text whole) (near_rounds whole) near_once)
+    (answer_law text whole (parts_of text) (IsPlain text whole) IsRounded near is_no_half (plain_to text whole) (plain_from text whole) (near_rounds whole) near_once)
 
 -- ---- counts
 

@@ -12,9 +12,9 @@ use Rattle.std.specs.Str.{all_ascii_digits}
 use Rattle.exact_dec.specs.declared.DecError.{DecError}
 use Rattle.exact_dec.specs.Decimal.{Spelling, Spells, IsSign, unsigned, minus, point_inside, no_power, number, signed, cut}
 use Rattle.exact_dec.specs.Computed.{answer_of, mm_cut_answer}
-use Rattle.exact_dec.specs.Reading.{is_long, no_more}
+use Rattle.exact_dec.specs.DecimalAnswers.{is_long, no_more}
 use Rattle.exact_dec.specs.Spelled.{IsQuotient, top, bottom}
-use Rattle.exact_dec.specs.Written.{minus_sign, six_digits, mm_text}
+use Rattle.exact_dec.specs.MillimetreText.{minus_sign, six_digits, mm_text}
 use Rattle.exact_dec.proofs.Answering.{cut_is, bounded_answer}
 use Rattle.exact_dec.proofs.Digits.{number-append}
 use Rattle.exact_dec.proofs.Grammar.{spelled_once}

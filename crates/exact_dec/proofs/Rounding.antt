@@ -4,7 +4,7 @@ use Rattle.std.proofs.Math.Nat.{mul-le-mul_right, zero-div, div-add-mod'}
 use Rattle.std.proofs.lemmas.Int.{ints, by_lt_z}
 use Rattle.std.proofs.lemmas.Nat.{div-mul-add, mod_below}
 use Rattle.std.proofs.lemmas.Bool.{eqb-true, eqb-false}
-use Rattle.exact_dec.specs.Decimal.{Fraction, signed, cut, IsNear}
+use Rattle.exact_dec.specs.Decimal.{Fraction, signed, cut, IsRounded}
 use Rattle.exact_dec.specs.Computed.{floor, near}
 use Rattle.exact_dec.specs.Spelled.{IsQuotient, half}
 
@@ -46,7 +46,7 @@ twice (pos a) (negsuc b) h = absurd (omega (arith, ints))
 twice (negsuc a) (pos b) h = omega (arith, ints)
 twice (negsuc a) (negsuc b) h = omega (arith, ints)
 
-not_less : (f : Fraction) (n k : ℤ) → IsNear f n → IsNear f k → n <ℤ k → ⊥
+not_less : (f : Fraction) (n k : ℤ) → IsRounded f n → IsRounded f k → n <ℤ k → ⊥
 not_less f n k a b h =
     let next : (n +ℤ pos 1) ≤ℤ k = omega (arith, ints) in
     let more = scale _ _ f.denominator (twice _ _ next) in
@@ -55,7 +55,7 @@ not_less f n k a b h =
     omega (arith, ints)
 
 -- a fraction has one nearest whole number
-pub near_once : (f : Fraction) (n k : ℤ) → IsNear f n → IsNear f k → n ≡ k
+pub near_once : (f : Fraction) (n k : ℤ) → IsRounded f n → IsRounded f k → n ≡ k
 near_once f n k a b = by_lt_z n k (λ h. absurd (not_less f n k a b h)) (λ h. by_lt_z k n (λ l. absurd (not_less f k n b a l)) (λ l. omega (arith, ints)))
 
 neg_times : (x d : ℕ) → neg_ℤ (pos x) *ℤ pos d ≡ neg_ℤ (pos (x * d))
@@ -89,14 +89,14 @@ floor_is (negsuc n) d some =
     let above = next_step (negsuc (n / (2 * d))) d in
     (rw below (omega (arith, ints)), rw (above, below) (omega (arith, ints)))
 
-pub near_is : (f : Fraction) → 0 < f.denominator → IsNear f (near f)
+pub near_is : (f : Fraction) → 0 < f.denominator → IsRounded f (near f)
 near_is f some = let h = floor_is ((pos 2 *ℤ f.numerator) +ℤ pos f.denominator) f.denominator some in record { not_above = h.0; greatest = h.1 }
 
 some_left : (n : ℕ) → (n == 0) ≡ false → 0 < n
 some_left n h = let not : n ≢ 0 = λ e. eqb-false n 0 h e in omega arith
 
 -- the nearest whole number of a signed fraction, by its number of halves
-pub half_near : (n d q : ℕ) (e negative : Bool) → IsQuotient (2 * n) d q e → IsNear (record { numerator = signed negative n; denominator = d }) (signed negative (half negative q e))
+pub half_near : (n d q : ℕ) (e negative : Bool) → IsQuotient (2 * n) d q e → IsRounded (record { numerator = signed negative n; denominator = d }) (signed negative (half negative q e))
 half_near n d q e false h =
     let halved : (q + 1) / 2 * 2 + (q + 1) % 2 ≡ q + 1 = div-add-mod' (q + 1) 2 in
     let small : (q + 1) % 2 < 2 = mod_below (q + 1) 2 (omega arith) in

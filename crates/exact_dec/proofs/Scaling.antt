@@ -66,7 +66,7 @@ down_quotient a b f y by unit r e is first h =
     let same : unit * number b * 10 ^ (length f + 0) ≡ unit * number b * 10 ^ length f = ap (λ n. unit * number b * 10 ^ n) (omega arith) in
     quotient_by _ _ _ _ _ e (omega (arith, whole, lead, none, same)) low (quotient_plus (number a * unit) _ _ r e h)
 
--- ---- a front and a back of digits
+-- ---- a prefix and a back of digits
 
 pub digits-take : (n : ℕ) (ds : List ℕ) → all_ascii_digits ds ≡ true → all_ascii_digits (take n ds) ≡ true
 digits-take zero ds h = refl
@@ -82,29 +82,29 @@ digits-drop (suc n) (c ∷ cs) h = digits-drop n cs (and_parts (is_ascii_digit c
 
 -- ---- two runs of digits as one
 
-pub joined_is : (n m : ℕ) (front back : List ℕ) → n ≡ 0 * 10 ^ length front + number front → m ≡ n * 10 ^ length back + number back → m ≡ number (front ++ back)
-joined_is n m front back first second = omega (arith, second, ap (λ x. x * 10 ^ length back) first, number-append front back)
+pub joined_is : (n m : ℕ) (prefix back : List ℕ) → n ≡ 0 * 10 ^ length prefix + number prefix → m ≡ n * 10 ^ length back + number back → m ≡ number (prefix ++ back)
+joined_is n m prefix back first second = omega (arith, second, ap (λ x. x * 10 ^ length back) first, number-append prefix back)
 
 pub joined_above : (most m z : ℕ) → most < m → most < m * 10 ^ z
 joined_above most m z h = omega (arith, le-mul_of_pos_right m (pow10_pos z))
 
-pub front_above : (most : ℕ) (front back : List ℕ) (z : ℕ) → most < 0 * 10 ^ length front + number front → most < number (front ++ back) * 10 ^ z
-front_above most front back z h = joined_above most (number (front ++ back)) z (omega (arith, le-mul_of_pos_right (number front) (pow10_pos (length back)), number-append front back))
+pub prefix_above : (most : ℕ) (prefix back : List ℕ) (z : ℕ) → most < 0 * 10 ^ length prefix + number prefix → most < number (prefix ++ back) * 10 ^ z
+prefix_above most prefix back z h = joined_above most (number (prefix ++ back)) z (omega (arith, le-mul_of_pos_right (number prefix) (pow10_pos (length back)), number-append prefix back))
 
 -- ---- where the digits were parted
 
-pub front_parted : (m by : ℕ) (f a b : List ℕ) → m ≡ min by (length f) → a ≡ take m f → b ≡ drop m f → (a ++ b ≡ f) × (by ≡ length a + (by - m)) × ((by - m ≡ 0) ⊎ (number b ≡ 0))
-front_parted m by f a b least front back =
-    let is_front : length a ≡ min m (length f) = ap length front ∙ length-take m f in (
-      ap (λ x. x ++ b) front ∙ ap (λ x. take m f ++ x) back ∙ take-append-drop m f,
-      omega (arith, least, is_front),
+pub prefix_parted : (m by : ℕ) (f a b : List ℕ) → m ≡ min by (length f) → a ≡ take m f → b ≡ drop m f → (a ++ b ≡ f) × (by ≡ length a + (by - m)) × ((by - m ≡ 0) ⊎ (number b ≡ 0))
+prefix_parted m by f a b least prefix back =
+    let is_prefix : length a ≡ min m (length f) = ap length prefix ∙ length-take m f in (
+      ap (λ x. x ++ b) prefix ∙ ap (λ x. take m f ++ x) back ∙ take-append-drop m f,
+      omega (arith, least, is_prefix),
       elim (cases_lt by (length f)) [ inl h ↦ inl (omega (arith, least)) | inr h ↦ inr (ap number (back ∙ drop_of_length-le f (omega (arith, least)))) ],
     )
 
 pub back_parted : (m by : ℕ) (w a b : List ℕ) → m ≡ min by (length w) → a ≡ take (length w - m) w → b ≡ drop (length w - m) w → (a ++ b ≡ w) × (by ≡ length b + (by - m)) × ((by - m ≡ 0) ⊎ (number a ≡ 0))
-back_parted m by w a b least front back =
+back_parted m by w a b least prefix back =
     let is_back : length b ≡ length w - (length w - m) = ap length back ∙ length-drop (length w - m) w in (
-      ap (λ x. x ++ b) front ∙ ap (λ x. take (length w - m) w ++ x) back ∙ take-append-drop (length w - m) w,
+      ap (λ x. x ++ b) prefix ∙ ap (λ x. take (length w - m) w ++ x) back ∙ take-append-drop (length w - m) w,
       omega (arith, least, is_back),
-      elim (cases_lt by (length w)) [ inl h ↦ inl (omega (arith, least)) | inr h ↦ inr (let none : length w - m ≡ 0 = omega (arith, least) in ap number (front ∙ ap (λ n. take n w) none)) ],
+      elim (cases_lt by (length w)) [ inl h ↦ inl (omega (arith, least)) | inr h ↦ inr (let none : length w - m ≡ 0 = omega (arith, least) in ap number (prefix ∙ ap (λ n. take n w) none)) ],
     )

@@ -2,7 +2,7 @@
 use Rattle.std.proofs.Common.{◌≡◌, ℕ, ◌+◌, ◌/◌, ◌≤◌, List, [], ◌∷◌, ◌++◌, length, ℤ, pos, negsuc, ◌∙◌, arith, append_assoc, length-append}
 use Rattle.std.specs.Prelude.{decimal}
 use Rattle.std.proofs.lemmas.Fmt.{length-decimal-le}
-use Rattle.exact_dec.specs.Written.{minus_sign}
+use Rattle.exact_dec.specs.MillimetreText.{minus_sign}
 
 pub minus_short : (z : ℤ) → length (minus_sign z) ≤ 1
 minus_short (pos n) = omega arith

@@ -8,9 +8,9 @@ use Rattle.std.proofs.lemmas.Bool.{and_parts, lt-ltb, ne_eqb, eq-eqb}
 use Rattle.std.specs.Cmp.Derive.{both_true}
 use Rattle.std.proofs.lemmas.Bool.Decides.{nat_tests}
 use Rattle.exact_dec.specs.declared.DecError.{DecError}
-use Rattle.exact_dec.specs.Decimal.{Spelling, Spells, IsDigits, IsMantissa, no_point, point_last, point_inside, point_first, IsPower, no_power, power, number, signed, raised, IsNear}
+use Rattle.exact_dec.specs.Decimal.{Spelling, Spells, IsDigits, IsMantissa, no_point, point_last, point_inside, point_first, IsPower, no_power, power, number, signed, raised, IsRounded}
 use Rattle.exact_dec.specs.Computed.{ends_in, unit_of, before_unit, zero_or_unit, parts_of, answer_of, near, with_unit_answer}
-use Rattle.exact_dec.specs.Reading.{IsUnit, millimetre, mil, inch, HasUnit, with_unit, zero_alone, WithUnit, no_more}
+use Rattle.exact_dec.specs.DecimalAnswers.{IsLengthUnit, millimetre, mil, inch, HasUnit, with_unit, zero_alone, WithUnit, no_more}
 use Rattle.exact_dec.proofs.Digits.{digit_at, pow10_pos, and_left}
 use Rattle.exact_dec.proofs.Grammar.{spells, spelled_once, some_same}
 use Rattle.exact_dec.proofs.Rounding.{abs_signed, near_once}
@@ -65,19 +65,19 @@ ends_not text u us other =
       | false ↦ λ h. refl
     ] refl
 
-front_length : (d u : List ℕ) → length (d ++ u) - length u ≡ length d
-front_length d u = omega (arith, length-append d u)
+prefix_length : (d u : List ℕ) → length (d ++ u) - length u ≡ length d
+prefix_length d u = omega (arith, length-append d u)
 
 ends_yes : (d u : List ℕ) → (ends_in (d ++ u) u ≡ true) × (take (length (d ++ u) - length u) (d ++ u) ≡ d)
 ends_yes d u = (
-  (bytes_eq-Decides (drop (length (d ++ u) - length u) (d ++ u)) u).1 (ap (λ n. drop n (d ++ u)) (front_length d u) ∙ drop-append_seam d u),
-  ap (λ n. take n (d ++ u)) (front_length d u) ∙ take-append_seam d u,
+  (bytes_eq-Decides (drop (length (d ++ u) - length u) (d ++ u)) u).1 (ap (λ n. drop n (d ++ u)) (prefix_length d u) ∙ drop-append_seam d u),
+  ap (λ n. take n (d ++ u)) (prefix_length d u) ∙ take-append_seam d u,
 )
 
 abbrev pub IsSplit : List ℕ → List ℕ → ℕ → Type 0
 IsSplit text d k = (unit_of text ≡ k) × (before_unit text ≡ d)
 
-split_unit : (d u : List ℕ) (k : ℤ) → IsUnit u k → (n : ℕ) × (k ≡ pos n) × (0 < n) × IsSplit (d ++ u) d n
+split_unit : (d u : List ℕ) (k : ℤ) → IsLengthUnit u k → (n : ℕ) × (k ≡ pos n) × (0 < n) × IsSplit (d ++ u) d n
 split_unit d _ _ millimetre =
     let yes = ends_yes d (codes "mm") in
     (1000000, refl, omega arith, (rw yes.0 refl, rw yes.0 yes.1))
@@ -102,7 +102,7 @@ no_unit text low =
 
 -- the text ends in a unit, or it is all before it
 abbrev pub HasSplit : List ℕ → ℕ → List ℕ → Type 0
-HasSplit text n d = ((u : List ℕ) × (text ≡ d ++ u) × IsUnit u (pos n)) ⊎ ((n ≡ 0) × (d ≡ text))
+HasSplit text n d = ((u : List ℕ) × (text ≡ d ++ u) × IsLengthUnit u (pos n)) ⊎ ((n ≡ 0) × (d ≡ text))
 
 split_of : (text : List ℕ) → HasSplit text (unit_of text) (before_unit text)
 split_of text =
@@ -169,7 +169,7 @@ with_unit_from text _ _ (zero_alone p spelled zeros) =
 pub with_unit_law : (text : List ℕ) (a : Result ℤ DecError) → a ≡ with_unit_answer text → (r : Result ℤ DecError) → (a ≡ r) ↔ WithUnit text r
 unfolding with_unit_answer
 with_unit_law text a e = along a (answer_of text (pos (unit_of text)) near no_more (zero_or_unit (unit_of text) (parts_of (before_unit text)))) e
-    (answer_law text (pos (unit_of text)) (zero_or_unit (unit_of text) (parts_of (before_unit text))) (HasUnit text) IsNear near no_more (with_unit_to text) (with_unit_from text) (near_rounds (pos (unit_of text))) near_once)
+    (answer_law text (pos (unit_of text)) (zero_or_unit (unit_of text) (parts_of (before_unit text))) (HasUnit text) IsRounded near no_more (with_unit_to text) (with_unit_from text) (near_rounds (pos (unit_of text))) near_once)
 
 -- ---- the answers as the call reaches them
 

@@ -1,12 +1,12 @@
 -- The same answers as functions of the text, for definitions that compute with what was read. Each reading call ensures
--- that they and the relations of `Reading` are one.
+-- that they and the relations of `DecimalAnswers` are one.
 use Rattle.std.specs.Prelude.{ℕ, ◌-◌, ◌*◌, ◌/◌, Bool, false, ◌&&◌, ◌||◌, List, [], ◌∷◌, ◌++◌, length, take, drop, codes, ℤ, pos, negsuc, ◌+ℤ◌, ◌*ℤ◌, nat_lt, nat_le, ◌==◌, if◌then◌else◌, Option, Some, None, Result, Ok, Err, bytes_eq}
 use Rattle.std.specs.Char.{is_ascii_digit}
 use Rattle.std.specs.Str.{all_ascii_digits}
 use Rattle.exact_dec.specs.declared.DecError.{DecError}
 use Rattle.exact_dec.specs.declared.DecError.TheVariants.{BadNumber, TooWide}
 use Rattle.exact_dec.specs.Decimal.{Spelling, Fraction, number, value, times, cut}
-use Rattle.exact_dec.specs.Reading.{is_long, is_far, is_no_half, no_more}
+use Rattle.exact_dec.specs.DecimalAnswers.{is_long, is_far, is_no_half, no_more}
 
 -- ---- the parts of a text
 
@@ -19,9 +19,9 @@ after_sign [] = []
 after_sign (c ∷ cs) = if ((c == 43) || (c == 45)) then cs else (c ∷ cs)
 
 -- the digits at the front, and what follows them
-abbrev pub front_digits : List ℕ → List ℕ
-front_digits [] = []
-front_digits (c ∷ cs) = if is_ascii_digit c then (c ∷ front_digits cs) else []
+abbrev pub prefix_digits : List ℕ → List ℕ
+prefix_digits [] = []
+prefix_digits (c ∷ cs) = if is_ascii_digit c then (c ∷ prefix_digits cs) else []
 
 abbrev pub after_digits : List ℕ → List ℕ
 after_digits [] = []
@@ -30,7 +30,7 @@ after_digits (c ∷ cs) = if is_ascii_digit c then after_digits cs else (c ∷ c
 -- the digits after a point at the front, and what follows them
 abbrev pub point_digits : List ℕ → List ℕ
 point_digits [] = []
-point_digits (c ∷ cs) = if c == 46 then front_digits cs else []
+point_digits (c ∷ cs) = if c == 46 then prefix_digits cs else []
 
 abbrev pub after_point : List ℕ → List ℕ
 after_point [] = []
@@ -53,7 +53,7 @@ unfoldable pub parts_of : List ℕ → Option Spelling
 parts_of text =
     let body = after_sign text in
     let rest = after_digits body in
-    with_power (has_minus text) (front_digits body) (point_digits rest) (power_of (after_point rest))
+    with_power (has_minus text) (prefix_digits body) (point_digits rest) (power_of (after_point rest))
 
 -- ---- rounding
 

@@ -93,6 +93,6 @@ cut f = int_div f.numerator (pos f.denominator)
 
 -- n is the greatest whole number that is not above the fraction and one half:
 -- n ≤ f + 1/2 < n + 1
-pub record IsNear (f : Fraction) (n : ℤ) : Type 0 where
+pub record IsRounded (f : Fraction) (n : ℤ) : Type 0 where
   pub not_above : ((pos 2 *ℤ n) *ℤ pos f.denominator) ≤ℤ ((pos 2 *ℤ f.numerator) +ℤ pos f.denominator)
   pub greatest : ((pos 2 *ℤ f.numerator) +ℤ pos f.denominator) <ℤ ((pos 2 *ℤ (n +ℤ pos 1)) *ℤ pos f.denominator)

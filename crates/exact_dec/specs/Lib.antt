@@ -1,6 +1,6 @@
 pub mod Computed
 pub mod Decimal
-pub mod Message
-pub mod Reading
+pub mod DecimalMessage
+pub mod DecimalAnswers
 pub mod Spelled
-pub mod Written
+pub mod MillimetreText

@@ -3,7 +3,7 @@ use Rattle.std.specs.Prelude.{◌≡◌, ℕ, ◌+◌, ◌*◌, ◌/◌, ◌^◌
 use Rattle.std.specs.Str.{all_ascii_digits}
 use Rattle.exact_dec.specs.declared.parts.DecimalParts.{DecimalParts}
 use Rattle.exact_dec.specs.Computed.{parts_of}
-use Rattle.exact_dec.specs.Reading.{is_long}
+use Rattle.exact_dec.specs.DecimalAnswers.{is_long}
 use Rattle.exact_dec.specs.Decimal.{Spelling, number, raised, lowered}
 
 abbrev pub spelled : DecimalParts → Spelling
@@ -38,7 +38,7 @@ abbrev pub half : Bool → ℕ → Bool → ℕ
 half negative halves exact = if (negative && exact) then (halves / 2) else ((halves + 1) / 2)
 
 -- a text of at most 64 bytes spells a decimal that comes to so many whole nanometres, as millimetres and without its sign
-pub record IsShort (text : List ℕ) (negative : Bool) (nanometres : ℕ) : Type 0 where
+pub record IsShortDecimal (text : List ℕ) (negative : Bool) (nanometres : ℕ) : Type 0 where
   pub parts : Spelling
   pub spelt : parts_of text ≡ Some parts
   pub sign : parts.negative ≡ negative

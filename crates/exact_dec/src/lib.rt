@@ -11,9 +11,9 @@ ghost use Rattle.std.specs.Str.{all_ascii_digits};
 ghost use Rattle.exact_dec.specs.declared.DecError.{DecError};
 ghost use Rattle.exact_dec.specs.Computed.{near, answer_of, mm_cut_answer, mm_near_answer, ratio_near_answer, with_unit_answer, count_answer};
 ghost use Rattle.exact_dec.specs.Decimal.{Spelling, Spells, number, signed, value, cut as cut_value};
-ghost use Rattle.exact_dec.specs.Reading.{is_long as is_long_text, is_no_half, no_more, MmCut, MmNear, RatioNear, WithUnit, Count};
+ghost use Rattle.exact_dec.specs.DecimalAnswers.{is_long as is_long_text, is_no_half, no_more, MmCut, MmNear, RatioNear, WithUnit, Count};
 ghost use Rattle.exact_dec.specs.Spelled.{spelled, HasDigits, top, bottom, half};
-ghost use Rattle.exact_dec.specs.Written.{mm_text};
+ghost use Rattle.exact_dec.specs.MillimetreText.{mm_text};
 
 mod parts;
 mod scale;
@@ -47,7 +47,7 @@ pub enum DecError {
 }
 
 impl fmt::Display for DecError {
-    ghost use Rattle.exact_dec.specs.Message.{message_of};
+    ghost use Rattle.exact_dec.specs.DecimalMessage.{message_of};
 
     ghost output = { λ error. Some (message_of error) };
 
@@ -141,7 +141,7 @@ pub fn count_of(text: &[u8]) -> Result<u32, DecError>
 /// them stay as they were.
 pub fn write_mm(nm: Nm, out: &mut [u8; 16]) -> usize
     requires { unsigned_abs nm ≤ 1000000000000 }
-    ensures front { take result out.new ≡ mm_text nm }
+    ensures prefix { take result out.new ≡ mm_text nm }
     ensures rest { drop result out.new ≡ drop result out.old }
     ensures len { result ≡ length (mm_text nm) }
     ensures fits { result ≤ 15 }

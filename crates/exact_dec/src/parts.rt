@@ -2,7 +2,7 @@
 
 ghost use Rattle.std.specs.Prelude.{◌≡◌, Some, None, true, ◌<◌, ◌++◌, MatchOption, MatchBool, IfSome};
 ghost use Rattle.std.specs.Str.{all_ascii_digits};
-ghost use Rattle.exact_dec.specs.Computed.{has_minus, after_sign, front_digits, after_digits, point_digits, after_point, is_digits, power_of, parts_of};
+ghost use Rattle.exact_dec.specs.Computed.{has_minus, after_sign, prefix_digits, after_digits, point_digits, after_point, is_digits, power_of, parts_of};
 ghost use Rattle.exact_dec.specs.Decimal.{number};
 ghost use Rattle.exact_dec.specs.Spelled.{spelled, HasDigits};
 
@@ -43,7 +43,7 @@ pub(crate) fn skip_sign(text: &[u8]) -> &[u8]
 
 /// The digits at the front, and what follows them.
 fn split_digits(text: &[u8]) -> (&[u8], &[u8])
-    ensures front { result.0.now ≡ front_digits text.now }
+    ensures prefix { result.0.now ≡ prefix_digits text.now }
     ensures back { result.1.now ≡ after_digits text.now }
 {
     let mut count = 0;
@@ -55,7 +55,7 @@ fn split_digits(text: &[u8]) -> (&[u8], &[u8])
 
 /// The digits after a point at the front, and what follows them.
 fn split_point(text: &[u8]) -> (&[u8], &[u8])
-    ensures front { result.0.now ≡ point_digits text.now }
+    ensures prefix { result.0.now ≡ point_digits text.now }
     ensures back { result.1.now ≡ after_point text.now }
 {
     match text {

@@ -111,14 +111,14 @@ fn zeros_behind(count: usize, unit: u64, behind: Quotient) -> Quotient
 }
 
 /// The number of two runs of digits with zeros behind them, or None above the most.
-fn joined(front: &[u8], back: &[u8], zeros: usize) -> Option<u64>
-    requires front { all_ascii_digits front.now ≡ true }
+fn joined(prefix: &[u8], back: &[u8], zeros: usize) -> Option<u64>
+    requires prefix { all_ascii_digits prefix.now ≡ true }
     requires back { all_ascii_digits back.now ≡ true }
     ensures { MatchOption result
-        (100000000 < number (front.now ++ back.now) * 10 ^ zeros)
-        (λ n. (n ≤ 100000000) × (n ≡ number (front.now ++ back.now) * 10 ^ zeros)) }
+        (100000000 < number (prefix.now ++ back.now) * 10 ^ zeros)
+        (λ n. (n ≤ 100000000) × (n ≡ number (prefix.now ++ back.now) * 10 ^ zeros)) }
 {
-    let whole = push_digits(0, front)?;
+    let whole = push_digits(0, prefix)?;
     let whole = push_digits(whole, back)?;
     push_zeros(whole, zeros)
 }

@@ -1,9 +1,9 @@
 //! Numbers of the usual spelling: at most eight digits before the point and six behind it, with no exponent.
 
 ghost use Rattle.std.specs.Prelude.{◌≡◌, ◌<◌, ◌≤◌, ◌*◌, ◌^◌, [], length, drop, IsSome, IfSome};
-ghost use Rattle.exact_dec.specs.Computed.{front_digits, after_digits, point_digits, after_point};
+ghost use Rattle.exact_dec.specs.Computed.{prefix_digits, after_digits, point_digits, after_point};
 ghost use Rattle.exact_dec.specs.Decimal.{number};
-ghost use Rattle.exact_dec.specs.Spelled.{IsShort};
+ghost use Rattle.exact_dec.specs.Spelled.{IsShortDecimal};
 
 use crate::parts::{begins_with_minus, skip_sign};
 
@@ -14,7 +14,7 @@ pub(crate) struct Usual {
     pub(crate) nanometres: u64,
 }
 
-/// The digits at the front of a text, as a number.
+/// The digits at the prefix of a text, as a number.
 #[derive(Clone, Copy)]
 struct Run {
     n: u64,
@@ -24,8 +24,8 @@ struct Run {
 /// The number of the digits at the front, unless there are more than the most.
 fn leading(text: &[u8], most: usize) -> Option<Run>
     requires { most ≤ 8 }
-    ensures number { IfSome result (λ f. f.n ≡ number (front_digits text.now)) }
-    ensures count { IfSome result (λ f. f.count ≡ length (front_digits text.now)) }
+    ensures number { IfSome result (λ f. f.n ≡ number (prefix_digits text.now)) }
+    ensures count { IfSome result (λ f. f.count ≡ length (prefix_digits text.now)) }
     ensures rest { IfSome result (λ f. drop f.count text.now ≡ after_digits text.now) }
     ensures within { IfSome result
         (λ f. (f.count ≤ most) × (f.count ≤ length text.now) × (f.n < 10 ^ f.count)) }
@@ -79,7 +79,7 @@ fn fraction(text: &[u8]) -> Option<Run>
 
 /// The number of a text of the usual spelling. Every other text is left to the general way.
 pub(crate) fn short(text: &[u8]) -> Option<Usual>
-    ensures { IfSome result (λ s. IsShort text.now s.negative s.nanometres) }
+    ensures { IfSome result (λ s. IsShortDecimal text.now s.negative s.nanometres) }
 {
     if text.len() > 64 {
         return None;

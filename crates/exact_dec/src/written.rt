@@ -1,13 +1,13 @@
 //! Pieces of a length that is written: its sign, its last six digits, and how they are put together.
 
 ghost use Rattle.std.specs.Prelude.{◌≡◌, ◌+◌, ◌%◌, ◌≤◌, ◌++◌, ℕ, length, take, drop};
-ghost use Rattle.exact_dec.specs.Written.{minus_sign, six_digits};
+ghost use Rattle.exact_dec.specs.MillimetreText.{minus_sign, six_digits};
 
 /// Writes a piece at a place, and gives the place behind it.
 pub(crate) fn put(out: &mut [u8], at: usize, piece: &[u8]) -> usize
     requires { at + length piece.now ≤ length out.old }
     ensures end { result ≡ at + length piece.now }
-    ensures front { take result out.new ≡ take at out.old ++ piece.now }
+    ensures prefix { take result out.new ≡ take at out.old ++ piece.now }
     ensures rest { (k : ℕ) → result ≤ k → drop k out.new ≡ drop k out.old }
 {
     let end = at + piece.len();

@@ -2,7 +2,7 @@
 use Rattle.std.proofs.Common.{◌≡◌, refl, append_assoc, Bool, true, false, ◌||◌, Result, Ok, Err}
 use Rattle.std.proofs.lemmas.List.{append-nil}
 use Rattle.board_errors.specs.declared.errors.BoardError.{BoardError}
-use Rattle.list_read.specs.Answers.{◌>>=◌}
+use Rattle.list_read.specs.FirstRefusals.{◌>>=◌}
 use Rattle.footprint_read.specs.declared.sides.CourtSide.{CourtSide}
 use Rattle.footprint_read.specs.declared.contents.Contents.{Contents}
 use Rattle.footprint_read.specs.Courtyards.{empty_side, side_then, curve_side}

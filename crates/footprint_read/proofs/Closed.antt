@@ -7,7 +7,7 @@ use Rattle.std.proofs.lemmas.Bool.{and_parts, eqb-true}
 use Rattle.std.proofs.lemmas.Bool.Decides.{Decides-int_eq}
 use Rattle.geo_seg.specs.declared.points.Point.{Point}
 use Rattle.geo_seg.specs.declared.points.Seg.{Seg}
-use Rattle.part_read.specs.declared.numbers.Spot.{Spot}
+use Rattle.part_read.specs.declared.numbers.RawPoint.{RawPoint}
 use Rattle.part_read.specs.There.{both}
 use Rattle.part_read.proofs.There.{both_some}
 use Rattle.part_read.specs.OnBoard.{tested, fits_board, point_at}
@@ -18,7 +18,7 @@ use Rattle.courtyard.proofs.Matching.{all_matched}
 use Rattle.footprint_read.specs.declared.sides.Course.{Course}
 use Rattle.footprint_read.specs.Courtyards.{at, is_long, ends_at, many_at, is_met, is_closed, line_to, seg_of, segs_of}
 
--- ---- places of points are those of spots, doubled
+-- ---- places of points are those of raw points, doubled
 
 abbrev double : ℤ × ℤ → ℤ × ℤ
 double k = (pos 2 *ℤ k.0, pos 2 *ℤ k.1)
@@ -42,7 +42,7 @@ same_double p q = rw (number_double p.0 q.0, number_double p.1 q.1) refl
 
 -- ---- a line as one of points
 
-tested_point : (s : Spot) (p : Point) → tested (fits_board s) (point_at s) ≡ Some p → place p ≡ double (at s)
+tested_point : (s : RawPoint) (p : Point) → tested (fits_board s) (point_at s) ≡ Some p → place p ≡ double (at s)
 tested_point s p h = by (fits_board s) (point_at s) (λ k. refl) p h
   where
     by : (t : Bool) (make : t ≡ true → Point) → ((k : t ≡ true) → place (make k) ≡ double (at s)) → (p : Point) → tested t make ≡ Some p → place p ≡ double (at s)

@@ -3,7 +3,7 @@ use Rattle.std.proofs.Common.{◌≡◌, ◌∙◌, refl, ap, sym, ℕ, suc, ◌
 use Rattle.std.specs.BTreeMap as tree
 use Rattle.std.specs.BTreeMap.{BTreeMap}
 use Rattle.courtyard.specs.Ends.{is_same}
-use Rattle.courtyard.specs.Groups.{place_cmp}
+use Rattle.courtyard.specs.EndGroups.{place_cmp}
 use Rattle.courtyard.proofs.Places.{same_true, at_place}
 use Rattle.footprint_read.specs.declared.sides.Course.{Course}
 use Rattle.footprint_read.specs.declared.closing.Count.{Count}

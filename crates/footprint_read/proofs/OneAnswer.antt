@@ -7,17 +7,17 @@ use Rattle.board_errors.specs.declared.errors.BoardError.{BoardError}
 use Rattle.board_items.specs.declared.parts.Part.{Part}
 use Rattle.board_items.specs.declared.item.Item.{Item}
 use Rattle.board_items.specs.Boards.{PlainBoard}
-use Rattle.part_read.specs.declared.stances.Stance.{Stance}
+use Rattle.part_read.specs.declared.placements.Placement.{Placement}
 use Rattle.courtyard.specs.declared.ends.LineEnd.{LineEnd}
 use Rattle.courtyard.specs.Ends.{IsJoined}
-use Rattle.courtyard.specs.Outlines.{AreChained, corners}
+use Rattle.courtyard.specs.ClosedOutlines.{AreChained, corners}
 use Rattle.courtyard.proofs.Unique.{one_list}
 use Rattle.pad_read.specs.declared.head.Head.{Head}
 use Rattle.footprint_read.specs.declared.sides.CourtSide.{CourtSide}
 use Rattle.footprint_read.specs.declared.contents.Contents.{Contents}
 use Rattle.footprint_read.specs.declared.courts.Court.{Court}
 use Rattle.footprint_read.specs.declared.courts.Court.TheVariants.{Unchecked, Parts, Off}
-use Rattle.footprint_read.specs.Courtyards.{is_closed, segs_of, figure_parts, outline_part, HasParts, IsChecked, IsCourt}
+use Rattle.footprint_read.specs.Courtyards.{is_closed, segs_of, figure_parts, outline_part, HasParts, IsCheckedSide, IsCourt}
 use Rattle.footprint_read.specs.FootHead.{head_of}
 use Rattle.footprint_read.specs.FootprintOf.{finished, contents_of, SaysOf, SaysInside, SaysWithHead, FootprintSays}
 use Rattle.footprint_read.proofs.Closed.{closed_joined}
@@ -34,8 +34,8 @@ one_chain : (segs : List Seg) (p q : List (List Point)) → ((e : LineEnd) → I
 one_chain segs p q joined h k =
     h.polygons ∙ ap (λ (os : List (List LineEnd)). map (corners segs) os) (one_list segs joined h.all k.all h.outlines k.outlines) ∙ sym k.polygons
 
-same_parts : (stance : Stance) (side : CourtSide) (p q : List Part) → is_closed side.lines ≡ true → HasParts stance side p → HasParts stance side q → p ≡ q
-same_parts stance side p q closed h k =
+same_parts : (placement : Placement) (side : CourtSide) (p q : List Part) → is_closed side.lines ≡ true → HasParts placement side p → HasParts placement side q → p ≡ q
+same_parts placement side p q closed h k =
     let drawn : h.drawn ≡ k.drawn = same_some (sym h.of_figures ∙ k.of_figures) in
     let segs : h.segs ≡ k.segs = same_segs side h.segs k.segs h.of_lines k.of_lines in
     let chained : AreChained h.segs k.polys = subst (λ (s : List Seg). AreChained s k.polys) (sym segs) k.chained in
@@ -45,31 +45,31 @@ same_parts stance side p q closed h k =
 never : {b : Bool} → b ≡ true → b ≡ false → ⊥
 never h k = let e : true ≡ false = sym h ∙ k in absurd cc
 
-not_both : (side : CourtSide) → (side.curved ≡ true) ⊎ (is_closed side.lines ≡ false) → IsChecked side → ⊥
+not_both : (side : CourtSide) → (side.curved ≡ true) ⊎ (is_closed side.lines ≡ false) → IsCheckedSide side → ⊥
 not_both side (inl h) k = never h k.0
 not_both side (inr h) k = never k.1 h
 
-not_off : (stance : Stance) (side : CourtSide) (parts : List Part) → HasParts stance side parts → (figure_parts stance side.drawings ≡ None) ⊎ (segs_of side.lines ≡ None) → ⊥
-not_off stance side parts h (inl k) = let e : None ≡ Some h.drawn = sym k ∙ h.of_figures in absurd cc
-not_off stance side parts h (inr k) = let e : None ≡ Some h.segs = sym k ∙ h.of_lines in absurd cc
+not_off : (placement : Placement) (side : CourtSide) (parts : List Part) → HasParts placement side parts → (figure_parts placement side.drawings ≡ None) ⊎ (segs_of side.lines ≡ None) → ⊥
+not_off placement side parts h (inl k) = let e : None ≡ Some h.drawn = sym k ∙ h.of_figures in absurd cc
+not_off placement side parts h (inr k) = let e : None ≡ Some h.segs = sym k ∙ h.of_lines in absurd cc
 
-one_court : (stance : Stance) (side : CourtSide) (c d : Court) → IsCourt stance side c → IsCourt stance side d → c ≡ d
-one_court stance side Unchecked Unchecked h k = refl
-one_court stance side Unchecked (Parts q) h k = absurd (not_both side h k.0)
-one_court stance side Unchecked Off h k = absurd (not_both side h k.0)
-one_court stance side (Parts p) Unchecked h k = absurd (not_both side k h.0)
-one_court stance side (Parts p) (Parts q) h k = ap (λ (ps : List Part). Parts ps) (same_parts stance side p q h.0.1 h.1 k.1)
-one_court stance side (Parts p) Off h k = absurd (not_off stance side p h.1 k.1)
-one_court stance side Off Unchecked h k = absurd (not_both side k h.0)
-one_court stance side Off (Parts q) h k = absurd (not_off stance side q k.1 h.1)
-one_court stance side Off Off h k = refl
+one_court : (placement : Placement) (side : CourtSide) (c d : Court) → IsCourt placement side c → IsCourt placement side d → c ≡ d
+one_court placement side Unchecked Unchecked h k = refl
+one_court placement side Unchecked (Parts q) h k = absurd (not_both side h k.0)
+one_court placement side Unchecked Off h k = absurd (not_both side h k.0)
+one_court placement side (Parts p) Unchecked h k = absurd (not_both side k h.0)
+one_court placement side (Parts p) (Parts q) h k = ap (λ (ps : List Part). Parts ps) (same_parts placement side p q h.0.1 h.1 k.1)
+one_court placement side (Parts p) Off h k = absurd (not_off placement side p h.1 k.1)
+one_court placement side Off Unchecked h k = absurd (not_both side k h.0)
+one_court placement side Off (Parts q) h k = absurd (not_off placement side q k.1 h.1)
+one_court placement side Off Off h k = refl
 
 -- ---- one answer
 
 one_of : (board : PlainBoard) (unit : ℕ) (head : Head) (tree : Tree) (contents : Contents) (a b : Result (List Item) BoardError) → SaysOf board unit head tree contents a → SaysOf board unit head tree contents b → a ≡ b
 one_of board unit head tree contents a b h k =
-    let front = one_court head.stance contents.front h.front k.front h.of_front k.of_front in
-    let back = one_court head.stance contents.back h.back k.back h.of_back k.of_back in
+    let front = one_court head.placement contents.front h.front k.front h.of_front k.of_front in
+    let back = one_court head.placement contents.back h.back k.back h.of_back k.of_back in
     h.same
     ∙ ap (λ (c : Court). finished board unit head tree contents.given c h.back) front
     ∙ ap (λ (c : Court). finished board unit head tree contents.given k.front c) back

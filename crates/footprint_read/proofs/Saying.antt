@@ -28,13 +28,13 @@ module _ (board : PlainBoard) (unit : ℕ) (tree : Tree) where
   contents_refused head e h (inr k) = inr (with_head head (Err e) h (subst (λ (r : Result Contents BoardError). SaysInside board unit head tree r (Err e)) (sym k) refl))
 
   says_by : (head : Head) (contents : Contents) (front back : Court) (answer : Result (List Item) BoardError) → head_of board.copper tree ≡ Ok head → contents_of board unit head tree ≡ Ok contents
-      → IsCourt head.stance contents.front front → IsCourt head.stance contents.back back → answer ≡ finished board unit head tree contents.given front back → FootprintSays board unit tree answer
+      → IsCourt head.placement contents.front front → IsCourt head.placement contents.back back → answer ≡ finished board unit head tree contents.given front back → FootprintSays board unit tree answer
   says_by head contents front back answer h k f b s =
       let inside : SaysOf board unit head tree contents answer = record { front = front; back = back; of_front = f; of_back = b; same = s } in
       with_head head answer h (subst (λ (r : Result Contents BoardError). SaysInside board unit head tree r answer) (sym k) inside)
 
   pub says_items : (head : Head) (contents : Contents) (front back : Court) (result : Result (Vec Item Global) BoardError) → head_of board.copper tree ≡ Ok head → contents_of board unit head tree ≡ Ok contents
-      → IsCourt head.stance contents.front front → IsCourt head.stance contents.back back → GivesItems result (finished board unit head tree contents.given front back) → SaysItems result board unit tree
+      → IsCourt head.placement contents.front front → IsCourt head.placement contents.back back → GivesItems result (finished board unit head tree contents.given front back) → SaysItems result board unit tree
   says_items head contents front back (Ok items) h k f b s = says_by head contents front back (Ok items.items) h k f b (sym s)
   says_items head contents front back (Err e) h k f b (inl s) = inl s
   says_items head contents front back (Err e) h k f b (inr s) = inr (says_by head contents front back (Err e) h k f b (sym s))

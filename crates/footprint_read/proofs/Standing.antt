@@ -12,18 +12,18 @@ use Rattle.board_items.specs.declared.item.About.TheVariants.{Courtyard}
 use Rattle.board_items.specs.declared.item.Item.{Item}
 use Rattle.copper_layers.specs.Layers.{is_within}
 use Rattle.board_items.specs.Boards.{PlainBoard, name_of}
-use Rattle.board_items.specs.Refusals.{room_of}
-use Rattle.part_read.specs.declared.numbers.Spot.{Spot}
-use Rattle.list_read.specs.Answers.{◌>>=◌}
-use Rattle.list_read.specs.Heads.{place}
-use Rattle.part_read.specs.Elements.{name_in}
+use Rattle.board_items.specs.ItemRefusals.{capacity_of}
+use Rattle.part_read.specs.declared.numbers.RawPoint.{RawPoint}
+use Rattle.list_read.specs.FirstRefusals.{◌>>=◌}
+use Rattle.list_read.specs.ListHeads.{place}
+use Rattle.part_read.specs.ElementResults.{name_in}
 use Rattle.part_read.specs.OnBoard.{fits_board}
-use Rattle.part_read.specs.Stances.{IsReadSpot, IsStanceSpot}
+use Rattle.part_read.specs.Placements.{IsReadRawPoint, IsPlacementRawPoint}
 use Rattle.part_read.specs.Ready.{IsReady, AreReady}
-use Rattle.part_read.specs.Room.{has_room_after}
+use Rattle.part_read.specs.Capacity.{has_capacity_after}
 use Rattle.part_read.proofs.Layering.{none_within}
 use Rattle.part_read.proofs.Graphical.{note_ready}
-use Rattle.part_read.proofs.Rooming.{room_by}
+use Rattle.part_read.proofs.Capacities.{capacity_by}
 use Rattle.pad_read.specs.declared.head.Head.{Head}
 use Rattle.footprint_read.specs.declared.contents.Given.{Given}
 use Rattle.footprint_read.specs.declared.courts.Court.{Court}
@@ -31,7 +31,7 @@ use Rattle.footprint_read.specs.declared.courts.Court.TheVariants.{Unchecked, Pa
 use Rattle.footprint_read.specs.Bare.{AreBare}
 use Rattle.footprint_read.proofs.Bared.{IsBare}
 use Rattle.footprint_read.specs.Courtyards.{parts_in, lies_on_board}
-use Rattle.footprint_read.specs.FootprintOf.{given_at, items_of, is_placed, body_of, court_notes, all_given, with_room, in_room}
+use Rattle.footprint_read.specs.FootprintOf.{given_at, items_of, is_placed, body_of, court_notes, all_given, with_reserved, in_capacity}
 
 -- ---- parts on no layer
 
@@ -47,7 +47,7 @@ bare_within copper parts more h k = bare_all copper (parts ++ more) (All-append 
 
 -- ---- the body, and notes
 
-body_ready : (board : PlainBoard) (unit : ℕ) (head : Head) (tree : Tree) (front back : Court) → is_some (name_of board 0) ≡ true → fits_board head.stance.at ≡ true → AreBare (parts_in front) → AreBare (parts_in back)
+body_ready : (board : PlainBoard) (unit : ℕ) (head : Head) (tree : Tree) (front back : Court) → is_some (name_of board 0) ≡ true → fits_board head.placement.at ≡ true → AreBare (parts_in front) → AreBare (parts_in back)
     → IsReady board unit (body_of unit head tree front back)
 body_ready board unit head tree front back net fits hf hb = record {
   admitted = and_from _ _ (and_from _ _ fits net) (bare_within board.copper (parts_in front) (parts_in back) hf hb);
@@ -83,7 +83,7 @@ given_ready board unit place items h = subst (λ (zs : List Item). All (IsReady 
 pub with_ready : (board : PlainBoard) (unit place : ℕ) (xs : List Given) (items : List Item) → All (IsReady board unit) (items_of xs) → All (IsReady board unit) items → All (IsReady board unit) (items_of (xs ++ given_at place items))
 with_ready board unit place xs items h k = append_ready board unit xs (given_at place items) h (given_ready board unit place items k)
 
-pub all_ready : (board : PlainBoard) (unit : ℕ) (head : Head) (tree : Tree) (given : List Given) (front back : Court) → is_some (name_of board 0) ≡ true → fits_board head.stance.at ≡ true
+pub all_ready : (board : PlainBoard) (unit : ℕ) (head : Head) (tree : Tree) (given : List Given) (front back : Court) → is_some (name_of board 0) ≡ true → fits_board head.placement.at ≡ true
     → AreBare (parts_in front) → AreBare (parts_in back) → All (IsReady board unit) (items_of given) → All (IsReady board unit) (items_of (all_given unit head tree given front back))
 all_ready board unit head tree given front back net fits hf hb h =
     let P = IsReady board unit in
@@ -100,7 +100,7 @@ all_ready board unit head tree given front back net fits hf hb h =
 pub none_ready : (board : PlainBoard) (unit : ℕ) → All (IsReady board unit) (items_of [])
 none_ready board unit = All-nil (IsReady board unit)
 
-pub wider : (s : Spot) → IsReadSpot s → IsStanceSpot s
+pub wider : (s : RawPoint) → IsReadRawPoint s → IsPlacementRawPoint s
 wider s h =
     let x = h.x in
     let y = h.y in
@@ -108,53 +108,53 @@ wider s h =
 
 -- ---- room
 
-record HasRoom (board : PlainBoard) (unit before : ℕ) (given : List Given) : Type 0 where
-  room : before + length given ≤ room_of board
+record HasCapacity (board : PlainBoard) (unit before : ℕ) (given : List Given) : Type 0 where
+  capacity : before + length given ≤ capacity_of board
   numbered : 0 < length given → unit < 4294967295
 
-room_with : (board : PlainBoard) (unit before : ℕ) (g : Given) (gs : List Given) → (suc before ≤ room_of board → with_room board unit (suc before) gs ≡ Ok tt → HasRoom board unit (suc before) gs)
-    → with_room board unit before (g ∷ gs) ≡ Ok tt → HasRoom board unit before (g ∷ gs)
-room_with board unit before g gs rest h = by (has_room_after before board unit) refl h
+capacity_with : (board : PlainBoard) (unit before : ℕ) (g : Given) (gs : List Given) → (suc before ≤ capacity_of board → with_reserved board unit (suc before) gs ≡ Ok tt → HasCapacity board unit (suc before) gs)
+    → with_reserved board unit before (g ∷ gs) ≡ Ok tt → HasCapacity board unit before (g ∷ gs)
+capacity_with board unit before g gs rest h = by (has_capacity_after before board unit) refl h
   where
-    by : (b : Bool) → has_room_after before board unit ≡ b → cond b (with_room board unit (suc before) gs) (Err (TooMany g.place)) ≡ Ok tt → HasRoom board unit before (g ∷ gs)
+    by : (b : Bool) → has_capacity_after before board unit ≡ b → cond b (with_reserved board unit (suc before) gs) (Err (TooMany g.place)) ≡ Ok tt → HasCapacity board unit before (g ∷ gs)
     by false l e = absurd cc
     by true l e =
-        let here = room_by before board unit l in
-        let less : suc before ≤ room_of board = omega (arith, here.0) in
+        let here = capacity_by before board unit l in
+        let less : suc before ≤ capacity_of board = omega (arith, here.0) in
         let more = rest less e in
-        record { room = omega (arith, more.room); numbered = λ m. here.1 }
+        record { capacity = omega (arith, more.capacity); numbered = λ m. here.1 }
 
-room_holds : (board : PlainBoard) (unit before : ℕ) (given : List Given) → before ≤ room_of board → with_room board unit before given ≡ Ok tt → HasRoom board unit before given
-room_holds board unit before [] n h = record { room = omega (arith, n); numbered = λ m. absurd (omega (arith, m)) }
-room_holds board unit before (g ∷ gs) n h = room_with board unit before g gs (λ l e. room_holds board unit (suc before) gs l e) h
+capacity_holds : (board : PlainBoard) (unit before : ℕ) (given : List Given) → before ≤ capacity_of board → with_reserved board unit before given ≡ Ok tt → HasCapacity board unit before given
+capacity_holds board unit before [] n h = record { capacity = omega (arith, n); numbered = λ m. absurd (omega (arith, m)) }
+capacity_holds board unit before (g ∷ gs) n h = capacity_with board unit before g gs (λ l e. capacity_holds board unit (suc before) gs l e) h
 
 items_long : (given : List Given) → length (items_of given) ≡ length given
 items_long [] = refl
 items_long (g ∷ gs) = ap (λ (n : ℕ). suc n) (items_long gs)
 
-pub ready_in_room : (board : PlainBoard) (unit : ℕ) (given : List Given) (items : List Item) → All (IsReady board unit) (items_of given) → in_room board unit given ≡ Ok items → AreReady board unit items
-ready_in_room board unit given items h e = by (with_room board unit 0 given) refl e
+pub ready_in_capacity : (board : PlainBoard) (unit : ℕ) (given : List Given) (items : List Item) → All (IsReady board unit) (items_of given) → in_capacity board unit given ≡ Ok items → AreReady board unit items
+ready_in_capacity board unit given items h e = by (with_reserved board unit 0 given) refl e
   where
-    by : (r : Result (Unit {0}) BoardError) → with_room board unit 0 given ≡ r → (r >>= λ room. Ok (items_of given)) ≡ Ok items → AreReady board unit items
+    by : (r : Result (Unit {0}) BoardError) → with_reserved board unit 0 given ≡ r → (r >>= λ capacity. Ok (items_of given)) ≡ Ok items → AreReady board unit items
     by (Err x) l k = absurd cc
     by (Ok u) l k =
         let same : items_of given ≡ items = cc in
-        let room = room_holds board unit 0 given (omega arith) l in
+        let capacity = capacity_holds board unit 0 given (omega arith) l in
         let long = items_long given in
         subst (λ (is : List Item). AreReady board unit is) same
-        (record { each = h; room = omega (arith, room.room, long); numbered = λ n. room.numbered (omega (arith, n, long)) })
+        (record { each = h; capacity = omega (arith, capacity.capacity, long); numbered = λ n. capacity.numbered (omega (arith, n, long)) })
 
 -- with room for the next one, what comes after it decides
-pub room_step : (board : PlainBoard) (unit before i : ℕ) (all : List Given) → i < length all → has_room_after before board unit ≡ true → with_room board unit before (drop i all) ≡ with_room board unit (before + 1) (drop (i + 1) all)
-room_step board unit before i [] n h = absurd (omega (arith, n))
-room_step board unit before zero (g ∷ gs) n h =
+pub capacity_step : (board : PlainBoard) (unit before i : ℕ) (all : List Given) → i < length all → has_capacity_after before board unit ≡ true → with_reserved board unit before (drop i all) ≡ with_reserved board unit (before + 1) (drop (i + 1) all)
+capacity_step board unit before i [] n h = absurd (omega (arith, n))
+capacity_step board unit before zero (g ∷ gs) n h =
     let e : suc before ≡ before + 1 = omega arith in
-    ap (λ (b : Bool). cond {A = Result (Unit {0}) BoardError} b (with_room board unit (suc before) gs) (Err (TooMany g.place))) h
-    ∙ ap (λ (m : ℕ). with_room board unit m gs) e
-room_step board unit before (suc i) (g ∷ gs) n h =
+    ap (λ (b : Bool). cond {A = Result (Unit {0}) BoardError} b (with_reserved board unit (suc before) gs) (Err (TooMany g.place))) h
+    ∙ ap (λ (m : ℕ). with_reserved board unit m gs) e
+capacity_step board unit before (suc i) (g ∷ gs) n h =
     let e : suc (i + 1) ≡ suc i + 1 = omega arith in
     let less : i < length gs = omega (arith, n) in
-    room_step board unit before i gs less h ∙ ap (λ (m : ℕ). with_room board unit (before + 1) (drop m (g ∷ gs))) e
+    capacity_step board unit before i gs less h ∙ ap (λ (m : ℕ). with_reserved board unit (before + 1) (drop m (g ∷ gs))) e
 
-pub placed_fits : (head : Head) (front back : Court) → is_placed head front back ≡ true → fits_board head.stance.at ≡ true
-placed_fits head front back h = (and_parts (fits_board head.stance.at) (lies_on_board front && lies_on_board back) h).0
+pub placed_fits : (head : Head) (front back : Court) → is_placed head front back ≡ true → fits_board head.placement.at ≡ true
+placed_fits head front back h = (and_parts (fits_board head.placement.at) (lies_on_board front && lies_on_board back) h).0

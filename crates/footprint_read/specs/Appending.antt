@@ -1,7 +1,7 @@
 -- What a list gives, behind what was gathered before it.
 use Rattle.std.specs.Prelude.{Result, Ok}
 use Rattle.board_errors.specs.declared.errors.BoardError.{BoardError}
-use Rattle.list_read.specs.Answers.{◌>>=◌}
+use Rattle.list_read.specs.FirstRefusals.{◌>>=◌}
 use Rattle.footprint_read.specs.declared.sides.CourtSide.{CourtSide}
 use Rattle.footprint_read.specs.declared.contents.Contents.{Contents}
 use Rattle.footprint_read.specs.Courtyards.{side_then}

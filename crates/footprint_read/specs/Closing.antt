@@ -2,7 +2,7 @@
 use Rattle.std.specs.Prelude.{◌≡◌, ℕ, zero, suc, ℤ, List, Option, None, Some}
 use Rattle.std.specs.BTreeMap as tree
 use Rattle.std.specs.BTreeMap.{BTreeMap}
-use Rattle.courtyard.specs.Groups.{place_cmp}
+use Rattle.courtyard.specs.EndGroups.{place_cmp}
 use Rattle.footprint_read.specs.declared.closing.Count.{Count}
 use Rattle.footprint_read.specs.declared.closing.Count.TheVariants.{One, Two, Many}
 use Rattle.footprint_read.specs.declared.sides.Course.{Course}

@@ -9,26 +9,26 @@ use Rattle.geo_seg.specs.declared.shapes.Core.TheVariants.{Area}
 use Rattle.board_errors.specs.declared.errors.BoardError.{BoardError}
 use Rattle.board_errors.specs.declared.errors.BoardError.TheVariants.{Missing}
 use Rattle.board_items.specs.declared.parts.Part.{Part}
-use Rattle.part_read.specs.declared.numbers.Spot.{Spot}
-use Rattle.part_read.specs.declared.stances.Stance.{Stance}
+use Rattle.part_read.specs.declared.numbers.RawPoint.{RawPoint}
+use Rattle.part_read.specs.declared.placements.Placement.{Placement}
 use Rattle.part_read.specs.declared.drawings.GraphicKind.{GraphicKind}
 use Rattle.part_read.specs.declared.drawings.GraphicKind.TheVariants.{Line, Rect, Circle, Outline}
 use Rattle.part_read.specs.declared.figures.Figure.{Figure}
 use Rattle.part_read.specs.declared.figures.Figure.TheVariants.{Rect as RectFigure, Circle as CircleFigure, Outline as OutlineFigure}
 use Rattle.part_read.specs.declared.figures.Drawing.{Drawing}
-use Rattle.list_read.specs.Answers.{◌>>=◌, needed}
-use Rattle.list_read.specs.Heads.{place, has_head}
-use Rattle.list_read.specs.Elements.{element}
+use Rattle.list_read.specs.FirstRefusals.{◌>>=◌, needed}
+use Rattle.list_read.specs.ListHeads.{place, has_head}
+use Rattle.list_read.specs.NamedElements.{element}
 use Rattle.part_read.specs.There.{both}
-use Rattle.part_read.specs.Numbers.{spot_of}
+use Rattle.part_read.specs.BoardNumbers.{raw_point_of}
 use Rattle.part_read.specs.OnBoard.{tested, fits_board, point_at}
-use Rattle.part_read.specs.Stances.{stood}
+use Rattle.part_read.specs.Placements.{stood}
 use Rattle.part_read.specs.Circles.{radius_between}
 use Rattle.part_read.specs.Figures.{no_radius, around}
-use Rattle.part_read.specs.Drawings.{spots_among}
+use Rattle.part_read.specs.Drawings.{raw_points_among}
 use Rattle.pad_read.specs.PadOf.{all_drawn}
 use Rattle.courtyard.specs.Ends.{is_same}
-use Rattle.courtyard.specs.Outlines.{AreChained}
+use Rattle.courtyard.specs.ClosedOutlines.{AreChained}
 use Rattle.footprint_read.specs.declared.sides.Course.{Course}
 use Rattle.footprint_read.specs.declared.sides.CourtSide.{CourtSide}
 use Rattle.footprint_read.specs.declared.courts.Court.{Court}
@@ -52,35 +52,35 @@ curve_side = record empty_side { curved = true }
 abbrev pub figure_side : Figure → CourtSide
 figure_side figure = record empty_side { drawings = record { figure = figure; width = pos 0; filled = true } ∷ [] }
 
--- a line from one spot of the board to another
-unfoldable pub line_side : Stance → Tree → Result CourtSide BoardError
-line_side stance tree = do
-  start ← spot_of (codes "start") tree
-  end ← spot_of (codes "end") tree
-  Ok (record empty_side { lines = record { a = stood stance start; b = stood stance end } ∷ [] })
+-- a line from one raw point of the board to another
+unfoldable pub line_side : Placement → Tree → Result CourtSide BoardError
+line_side placement tree = do
+  start ← raw_point_of (codes "start") tree
+  end ← raw_point_of (codes "end") tree
+  Ok (record empty_side { lines = record { a = stood placement start; b = stood placement end } ∷ [] })
 
 -- a rectangle
 unfoldable pub rect_side : Tree → Result CourtSide BoardError
 rect_side tree = do
-  start ← spot_of (codes "start") tree
-  end ← spot_of (codes "end") tree
+  start ← raw_point_of (codes "start") tree
+  end ← raw_point_of (codes "end") tree
   Ok (figure_side (RectFigure start end))
 
 -- a circle around its centre through its end
 unfoldable pub circle_side : Tree → Result CourtSide BoardError
 circle_side tree = do
-  center ← spot_of (codes "center") tree
-  end ← spot_of (codes "end") tree
+  center ← raw_point_of (codes "center") tree
+  end ← raw_point_of (codes "end") tree
   Ok (figure_side (CircleFigure center (radius_between center end)))
 
--- an outline of these spots, three at least; with an arc among them the side has a curve
-abbrev pub spots_side : Tree → Bool → List Spot → Result CourtSide BoardError
-spots_side list curved spots =
+-- an outline of these raw points, three at least; with an arc among them the side has a curve
+abbrev pub raw_points_side : Tree → Bool → List RawPoint → Result CourtSide BoardError
+raw_points_side list curved raw_points =
     if curved then Ok curve_side
-    else if nat_le 3 (length spots) then Ok (figure_side (OutlineFigure spots))
+    else if nat_le 3 (length raw_points) then Ok (figure_side (OutlineFigure raw_points))
     else Err (Missing (place list))
 
--- an arc stands among the spots
+-- an arc stands among the raw points
 abbrev pub has_arc : Tree → Bool
 has_arc list = list_any (has_head (codes "arc")) (parts list)
 
@@ -88,21 +88,21 @@ has_arc list = list_any (has_head (codes "arc")) (parts list)
 unfoldable pub outline_side : Tree → Result CourtSide BoardError
 outline_side tree = do
   list ← needed (Missing (place tree)) (element (codes "pts") tree)
-  spots ← spots_among true (parts list)
-  spots_side list (has_arc list) spots
+  raw_points ← raw_points_among true (parts list)
+  raw_points_side list (has_arc list) raw_points
 
 -- what a graphic of this kind gives its side
-abbrev pub graphic_side : Stance → GraphicKind → Tree → Result CourtSide BoardError
-graphic_side stance Line tree = line_side stance tree
-graphic_side stance Rect tree = rect_side tree
-graphic_side stance Circle tree = circle_side tree
-graphic_side stance Outline tree = outline_side tree
+abbrev pub graphic_side : Placement → GraphicKind → Tree → Result CourtSide BoardError
+graphic_side placement Line tree = line_side placement tree
+graphic_side placement Rect tree = rect_side tree
+graphic_side placement Circle tree = circle_side tree
+graphic_side placement Outline tree = outline_side tree
 
--- ---- loose lines; a place is a spot as a pair of numbers
+-- ---- loose lines; a place is a raw point as a pair of numbers
 
--- the place of a spot
-abbrev pub at : Spot → ℤ × ℤ
-at spot = (spot.x, spot.y)
+-- the place of a raw point
+abbrev pub at : RawPoint → ℤ × ℤ
+at raw_point = (raw_point.x, raw_point.y)
 
 -- a line that has a length
 abbrev pub is_long : Course → Bool
@@ -141,8 +141,8 @@ segs_of [] = Some []
 segs_of (line ∷ lines) = if is_long line then both (λ seg segs. seg ∷ segs) (seg_of line) (segs_of lines) else segs_of lines
 
 -- the parts of all figures, if they lie on the board and no diameter is above 500 mm
-abbrev pub figure_parts : Stance → List Drawing → Option (List Part)
-figure_parts stance drawings = all_drawn (record { bits = 0 }) stance drawings
+abbrev pub figure_parts : Placement → List Drawing → Option (List Part)
+figure_parts placement drawings = all_drawn (record { bits = 0 }) placement drawings
 
 -- what a closed outline encloses
 abbrev pub outline_part : List Point → Part
@@ -151,24 +151,24 @@ outline_part points = record { layers = record { bits = 0 }; shape = around no_r
 -- ---- the courtyard of a side: it is not checked, or it lies on the board and has these parts, or it leaves the board
 
 -- the parts are those of the figures, and then the closed outlines of the lines, by their definition
-pub record HasParts (stance : Stance) (side : CourtSide) (parts : List Part) : Type 0 where
+pub record HasParts (placement : Placement) (side : CourtSide) (parts : List Part) : Type 0 where
   pub drawn : List Part
   pub segs : List Seg
   pub polys : List (List Point)
-  pub of_figures : figure_parts stance side.drawings ≡ Some drawn
+  pub of_figures : figure_parts placement side.drawings ≡ Some drawn
   pub of_lines : segs_of side.lines ≡ Some segs
   pub chained : AreChained segs polys
   pub all : parts ≡ drawn ++ map outline_part polys
 
 -- the side is checked: it has no curve and no loose line
-abbrev pub IsChecked : CourtSide → Type 0
-IsChecked side = (side.curved ≡ false) × (is_closed side.lines ≡ true)
+abbrev pub IsCheckedSide : CourtSide → Type 0
+IsCheckedSide side = (side.curved ≡ false) × (is_closed side.lines ≡ true)
 
 -- this is the courtyard of the side of a footprint that stands so
-abbrev pub IsCourt : Stance → CourtSide → Court → Type 0
-IsCourt stance side Unchecked = (side.curved ≡ true) ⊎ (is_closed side.lines ≡ false)
-IsCourt stance side (Parts parts) = IsChecked side × HasParts stance side parts
-IsCourt stance side Off = IsChecked side × ((figure_parts stance side.drawings ≡ None) ⊎ (segs_of side.lines ≡ None))
+abbrev pub IsCourt : Placement → CourtSide → Court → Type 0
+IsCourt placement side Unchecked = (side.curved ≡ true) ⊎ (is_closed side.lines ≡ false)
+IsCourt placement side (Parts parts) = IsCheckedSide side × HasParts placement side parts
+IsCourt placement side Off = IsCheckedSide side × ((figure_parts placement side.drawings ≡ None) ⊎ (segs_of side.lines ≡ None))
 
 -- the parts of a courtyard, none where it is not checked
 abbrev pub parts_in : Court → List Part

@@ -5,13 +5,13 @@ use Rattle.sexpr_read.specs.Tree.{Tree, parts}
 use Rattle.board_errors.specs.declared.errors.BoardError.{BoardError}
 use Rattle.board_errors.specs.declared.errors.BoardError.TheVariants.{Missing, Turned, UnknownLayer}
 use Rattle.copper_layers.specs.declared.set.LayerSet.{LayerSet}
-use Rattle.list_read.specs.Answers.{◌>>=◌, needed}
-use Rattle.list_read.specs.Heads.{place, text_of, is_text, has_head}
-use Rattle.list_read.specs.Elements.{element}
-use Rattle.part_read.specs.Elements.{atom_of}
-use Rattle.part_read.specs.LayersOf.{copper_in}
+use Rattle.list_read.specs.FirstRefusals.{◌>>=◌, needed}
+use Rattle.list_read.specs.ListHeads.{place, text_of, is_text, has_head}
+use Rattle.list_read.specs.NamedElements.{element}
+use Rattle.part_read.specs.ElementResults.{atom_of}
+use Rattle.part_read.specs.BoardLayers.{copper_in}
 use Rattle.pad_read.specs.declared.head.Head.{Head}
-use Rattle.pad_read.specs.Postures.{posture_of, quarters_of, clearance_of}
+use Rattle.pad_read.specs.LocalPlacements.{local_placement_of, quarters_of, clearance_of}
 
 -- ---- the side
 
@@ -58,8 +58,8 @@ reference_of tree = reference_by (find (says (codes "fp_text") (codes "reference
 unfoldable pub head_of : LayerSet → Tree → Result Head BoardError
 head_of copper tree = do
   on_back ← side_of copper tree
-  posture ← posture_of tree
-  quarter ← needed (Turned (place tree)) (quarters_of posture.angle)
+  local_placement ← local_placement_of tree
+  quarter ← needed (Turned (place tree)) (quarters_of local_placement.angle)
   reference ← reference_of tree
   clearance ← clearance_of tree
-  Ok (record { on_back = on_back; stance = record { quarter = quarter; at = posture.at }; reference = reference; clearance = clearance })
+  Ok (record { on_back = on_back; placement = record { quarter = quarter; at = local_placement.at }; reference = reference; clearance = clearance })

@@ -1,5 +1,5 @@
 -- Footprints: the items that (footprint .. (layer F.Cu) (at X Y ANGLE) ..) gives: its body, then its pads, graphics, edges and notes in
--- the order of the text, then a note for each side whose courtyard is not checked, front first. Spots of its parts are relative to its
+-- the order of the text, then a note for each side whose courtyard is not checked, front first. Raw points of its parts are relative to its
 -- position, and turned by its angle.
 use Rattle.std.specs.Prelude.{◌≡◌, ◌⊎◌, Vec, ℕ, suc, Bool, ◌&&◌, ◌||◌, List, [], ◌∷◌, ◌++◌, map, codes, Option, None, Some, Result, Ok, Err, refl, if◌then◌else◌}
 use Rattle.std.specs.declared.alloc.Global.{Global}
@@ -12,15 +12,15 @@ use Rattle.board_items.specs.declared.item.Item.{Item}
 use Rattle.board_items.specs.Boards.{PlainBoard}
 use Rattle.part_read.specs.declared.drawings.GraphicKind.{GraphicKind}
 use Rattle.part_read.specs.declared.drawings.GraphicKind.TheVariants.{Line, Rect, Circle, Outline}
-use Rattle.part_read.specs.declared.graphics.Ground.{Ground}
-use Rattle.part_read.specs.declared.graphics.Ground.TheVariants.{Front, Back}
-use Rattle.list_read.specs.Answers.{◌>>=◌, check}
-use Rattle.list_read.specs.Heads.{place, has_head}
-use Rattle.part_read.specs.Elements.{name_in}
+use Rattle.part_read.specs.declared.graphics.LayerRole.{LayerRole}
+use Rattle.part_read.specs.declared.graphics.LayerRole.TheVariants.{Front, Back}
+use Rattle.list_read.specs.FirstRefusals.{◌>>=◌, check}
+use Rattle.list_read.specs.ListHeads.{place, has_head}
+use Rattle.part_read.specs.ElementResults.{name_in}
 use Rattle.part_read.specs.OnBoard.{fits_board}
 use Rattle.part_read.specs.PlainItems.{plain_item}
-use Rattle.part_read.specs.Room.{has_room_after}
-use Rattle.part_read.specs.Graphics.{ground_of, graphic_by, curve_by, text_by, note_of}
+use Rattle.part_read.specs.Capacity.{has_capacity_after}
+use Rattle.part_read.specs.Graphics.{layer_role_of, graphic_by, curve_by, text_by, note_of}
 use Rattle.pad_read.specs.declared.head.Head.{Head}
 use Rattle.footprint_read.specs.declared.sides.CourtSide.{CourtSide}
 use Rattle.footprint_read.specs.declared.contents.Contents.{Contents}
@@ -54,13 +54,13 @@ abbrev pub at_back : Result CourtSide BoardError → Result Contents BoardError
 at_back answer = answer >>= λ side. Ok (record empty { back = side })
 
 -- what a graphic gives that lies here
-abbrev pub drawn_gives : PlainBoard → ℕ → Head → GraphicKind → Tree → Ground → Result Contents BoardError
-drawn_gives board unit head kind tree Front = at_front (graphic_side head.stance kind tree)
-drawn_gives board unit head kind tree Back = at_back (graphic_side head.stance kind tree)
-drawn_gives board unit head kind tree lies = giving tree (graphic_by board unit head.stance kind tree lies)
+abbrev pub drawn_gives : PlainBoard → ℕ → Head → GraphicKind → Tree → LayerRole → Result Contents BoardError
+drawn_gives board unit head kind tree Front = at_front (graphic_side head.placement kind tree)
+drawn_gives board unit head kind tree Back = at_back (graphic_side head.placement kind tree)
+drawn_gives board unit head kind tree lies = giving tree (graphic_by board unit head.placement kind tree lies)
 
 -- a curve on copper or on Edge.Cuts is refused, and one in a courtyard leaves its side unchecked
-abbrev pub arc_gives : Tree → Ground → Result Contents BoardError
+abbrev pub arc_gives : Tree → LayerRole → Result Contents BoardError
 arc_gives tree Front = at_front (Ok curve_side)
 arc_gives tree Back = at_back (Ok curve_side)
 arc_gives tree lies = giving tree (curve_by tree lies)
@@ -85,14 +85,14 @@ is_writing t = has_head (codes "fp_text") t || has_head (codes "fp_text_box") t 
 -- what a child gives that is neither a pad nor a graphic
 abbrev pub other_gives : PlainBoard → ℕ → Tree → Result Contents BoardError
 other_gives board unit t =
-    if is_curve t then (ground_of board.copper t >>= arc_gives t)
-    else if is_writing t then (ground_of board.copper t >>= λ lies. giving t (text_by unit Text t lies))
+    if is_curve t then (layer_role_of board.copper t >>= arc_gives t)
+    else if is_writing t then (layer_role_of board.copper t >>= λ lies. giving t (text_by unit Text t lies))
     else if has_head (codes "zone") t then giving t (Ok (note_of (name_in t) unit FootZone [] ∷ []))
     else Ok empty
 
 -- what a child gives that is no pad, by the graphic that it is
 abbrev pub kind_gives : PlainBoard → ℕ → Head → Tree → Option GraphicKind → Result Contents BoardError
-kind_gives board unit head t (Some kind) = ground_of board.copper t >>= drawn_gives board unit head kind t
+kind_gives board unit head t (Some kind) = layer_role_of board.copper t >>= drawn_gives board unit head kind t
 kind_gives board unit head t None = other_gives board unit t
 
 -- what a child of the footprint gives
@@ -120,7 +120,7 @@ children_give board unit head (t ∷ ts) = do
 -- the body of a footprint, with its reference and its courtyards
 abbrev pub body_of : ℕ → Head → Tree → Court → Court → Item
 body_of unit head tree front back =
-    plain_item (name_in tree) unit 0 head.stance.at [] (Body head.reference (parts_in front) (parts_in back) head.on_back) refl
+    plain_item (name_in tree) unit 0 head.placement.at [] (Body head.reference (parts_in front) (parts_in back) head.on_back) refl
 
 -- the note of a courtyard that is not checked
 abbrev pub court_notes : ℕ → Tree → List ℕ → Court → List Item
@@ -141,24 +141,24 @@ abbrev pub items_of : List Given → List Item
 items_of given = map (λ g. g.item) given
 
 -- the first item for which there is no room is refused at the list that gives it; so many come before
-abbrev pub with_room : PlainBoard → ℕ → ℕ → List Given → Result (Unit {0}) BoardError
-with_room board unit before [] = Ok tt
-with_room board unit before (g ∷ gs) =
-    if has_room_after before board unit then with_room board unit (suc before) gs else Err (TooMany g.place)
+abbrev pub with_reserved : PlainBoard → ℕ → ℕ → List Given → Result (Unit {0}) BoardError
+with_reserved board unit before [] = Ok tt
+with_reserved board unit before (g ∷ gs) =
+    if has_capacity_after before board unit then with_reserved board unit (suc before) gs else Err (TooMany g.place)
 
 -- the items, if the board has room for them all
-abbrev pub in_room : PlainBoard → ℕ → List Given → Result (List Item) BoardError
-in_room board unit given = with_room board unit 0 given >>= λ room. Ok (items_of given)
+abbrev pub in_capacity : PlainBoard → ℕ → List Given → Result (List Item) BoardError
+in_capacity board unit given = with_reserved board unit 0 given >>= λ capacity. Ok (items_of given)
 
 -- the body must lie on the board with its courtyards; then there must be room
 abbrev pub is_placed : Head → Court → Court → Bool
-is_placed head front back = fits_board head.stance.at && (lies_on_board front && lies_on_board back)
+is_placed head front back = fits_board head.placement.at && (lies_on_board front && lies_on_board back)
 
 -- the items of a footprint with these courtyards, if it lies on the board and there is room
 unfoldable pub finished : PlainBoard → ℕ → Head → Tree → List Given → Court → Court → Result (List Item) BoardError
 finished board unit head tree given front back = do
   on_board ← check (OutOfBoard (place tree)) (is_placed head front back)
-  in_room board unit (all_given unit head tree given front back)
+  in_capacity board unit (all_given unit head tree given front back)
 
 -- ---- the whole: it gives these items, or this refusal
 
@@ -170,8 +170,8 @@ contents_of board unit head tree = children_give board unit head (parts tree)
 pub record SaysOf (board : PlainBoard) (unit : ℕ) (head : Head) (tree : Tree) (contents : Contents) (answer : Result (List Item) BoardError) : Type 0 where
   pub front : Court
   pub back : Court
-  pub of_front : IsCourt head.stance contents.front front
-  pub of_back : IsCourt head.stance contents.back back
+  pub of_front : IsCourt head.placement contents.front front
+  pub of_back : IsCourt head.placement contents.back back
   pub same : answer ≡ finished board unit head tree contents.given front back
 
 -- the answer of a footprint whose children gave this, or were refused so

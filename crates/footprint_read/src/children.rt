@@ -2,14 +2,14 @@
 //! sides.
 
 ghost use Rattle.std.specs.Prelude.{◌≡◌, ◌<◌, ◌∷◌, [], ℕ, Ok, IfOk, OnOk, All};
-ghost use Rattle.sexpr_read.specs.Views.{tree_of};
+ghost use Rattle.sexpr_read.specs.TreeViews.{tree_of};
 ghost use Rattle.board_items.specs.Boards.{PlainBoard};
 ghost use Rattle.board_items.specs.declared.item.About.TheVariants.{FootZone};
-ghost use Rattle.part_read.specs.Elements.{name_in};
+ghost use Rattle.part_read.specs.ElementResults.{name_in};
 ghost use Rattle.part_read.specs.Graphics.{note_of};
-ghost use Rattle.part_read.specs.Nodes.{Gives, Leaves};
-ghost use Rattle.part_read.specs.Grounds.{IsOn};
-ghost use Rattle.part_read.specs.Stances.{IsReadSpot, IsStanceSpot};
+ghost use Rattle.part_read.specs.NodeResults.{Gives, Leaves};
+ghost use Rattle.part_read.specs.LayerRoles.{HasLayerOfRole};
+ghost use Rattle.part_read.specs.Placements.{IsReadRawPoint, IsPlacementRawPoint};
 ghost use Rattle.part_read.specs.Ready.{IsReady};
 ghost use Rattle.footprint_read.specs.FootprintOf.{items_of, giving, drawn_gives, arc_gives, drawn_kind, is_curve, is_writing, other_gives, child_gives, contents_of};
 ghost use Rattle.footprint_read.specs.Appending.{onto};
@@ -20,7 +20,7 @@ use crate::notes::note_on;
 use board_items::{About, Board, BoardError, Item};
 use list_read::{has_head, place};
 use pad_read::{Head, pad_of};
-use part_read::{GraphicKind, Ground, curve_by, ground_of, read_graphic, read_text};
+use part_read::{GraphicKind, LayerRole, curve_by, layer_role_of, read_graphic, read_text};
 use plain_types::one;
 use sexpr_read::Node;
 use std::alloc::{AllocError, Global};
@@ -29,7 +29,7 @@ use std::alloc::{AllocError, Global};
 #[derive(Clone, Copy)]
 struct Drawn {
     kind: GraphicKind,
-    lies: Ground,
+    lies: LayerRole,
 }
 
 /// What a graphic of a footprint is, by its head.
@@ -74,7 +74,8 @@ fn add_items(
     ensures with { OnOk result
         (onto contents.old (giving (tree_of node.entry) (Ok items.items)) ≡ Ok contents.new) }
     ensures ready { (board : PlainBoard) (unit : ℕ)
-        → All (IsReady board unit) (items_of contents.old.given) → All (IsReady board unit) items.items
+        → All (IsReady board unit) (items_of contents.old.given)
+        → All (IsReady board unit) items.items
         → OnOk result (All (IsReady board unit) (items_of contents.new.given)) }
 {
     contents.given.append(place(node), items)
@@ -91,19 +92,25 @@ fn add_drawn(
     node: Node<'_, '_>,
     drawn: Drawn,
 ) -> Result<(), BoardError>
-    requires quarter { head.now.stance.quarter < 4 }
-    requires at { IsStanceSpot head.now.stance.at }
-    requires on { IsOn board.now.copper drawn.lies }
+    requires quarter { head.now.placement.quarter < 4 }
+    requires at { IsPlacementRawPoint head.now.placement.at }
+    requires on { HasLayerOfRole board.now.copper drawn.lies }
     requires ready { All (IsReady board.now unit) (items_of contents.old.given) }
     ensures read { Leaves result contents.new (onto contents.old
         (drawn_gives board.now unit head.now drawn.kind (tree_of node.entry) drawn.lies)) }
     ensures ready { OnOk result (All (IsReady board.now unit) (items_of contents.new.given)) }
 {
     match drawn.lies {
-        Ground::Front => add_graphic(alloc, head.stance, drawn.kind, &mut contents.front, node),
-        Ground::Back => add_graphic(alloc, head.stance, drawn.kind, &mut contents.back, node),
+        LayerRole::Front => add_graphic(
+            alloc,
+            head.placement,
+            drawn.kind,
+            &mut contents.front,
+            node,
+        ),
+        LayerRole::Back => add_graphic(alloc, head.placement, drawn.kind, &mut contents.back, node),
         lies => {
-            let items = read_graphic(alloc, board, unit, head.stance, drawn.kind, node, lies)?;
+            let items = read_graphic(alloc, board, unit, head.placement, drawn.kind, node, lies)?;
             Ok(add_items(contents, node, items)?)
         }
     }
@@ -116,18 +123,18 @@ fn add_arc(
     alloc: Global,
     contents: &mut Contents,
     node: Node<'_, '_>,
-    lies: Ground,
+    lies: LayerRole,
 ) -> Result<(), BoardError>
     ensures read { Leaves result contents.new
         (onto contents.old (arc_gives (tree_of node.entry) lies)) }
     ensures same { OnOk result (items_of contents.new.given ≡ items_of contents.old.given) }
 {
     match lies {
-        Ground::Front => {
+        LayerRole::Front => {
             contents.front.note_curve();
             Ok(())
         }
-        Ground::Back => {
+        LayerRole::Back => {
             contents.back.note_curve();
             Ok(())
         }
@@ -169,11 +176,11 @@ fn add_other(
     ensures ready { OnOk result (All (IsReady board.now unit) (items_of contents.new.given)) }
 {
     if is_curve(node) {
-        let lies = ground_of(board.copper(), node)?;
+        let lies = layer_role_of(board.copper(), node)?;
         return add_arc(alloc, contents, node, lies);
     }
     if is_writing(node) {
-        let lies = ground_of(board.copper(), node)?;
+        let lies = layer_role_of(board.copper(), node)?;
         let notes = read_text(alloc, board, unit, About::Text, node, lies)?;
         return Ok(add_items(contents, node, notes)?);
     }
@@ -194,8 +201,8 @@ fn add_child(
     contents: &mut Contents,
     node: Node<'_, '_>,
 ) -> Result<(), BoardError>
-    requires quarter { head.now.stance.quarter < 4 }
-    requires at { IsReadSpot head.now.stance.at }
+    requires quarter { head.now.placement.quarter < 4 }
+    requires at { IsReadRawPoint head.now.placement.at }
     requires ready { All (IsReady board.now unit) (items_of contents.old.given) }
     ensures read { Leaves result contents.new
         (onto contents.old (child_gives board.now unit head.now (tree_of node.entry))) }
@@ -208,7 +215,7 @@ fn add_child(
     let Some(kind) = drawn_kind(node) else {
         return add_other(alloc, board, unit, contents, node);
     };
-    let lies = ground_of(board.copper(), node)?;
+    let lies = layer_role_of(board.copper(), node)?;
     let drawn = Drawn { kind, lies };
     add_drawn(alloc, board, unit, head, contents, node, drawn)
 }
@@ -222,8 +229,8 @@ pub(crate) fn contents_of(
     head: &Head,
     node: Node<'_, '_>,
 ) -> Result<Contents, BoardError>
-    requires quarter { head.now.stance.quarter < 4 }
-    requires at { IsReadSpot head.now.stance.at }
+    requires quarter { head.now.placement.quarter < 4 }
+    requires at { IsReadRawPoint head.now.placement.at }
     ensures read { Gives result (contents_of board.now unit head.now (tree_of node.entry)) }
     ensures ready { IfOk result (λ all. All (IsReady board.now unit) (items_of all.given)) }
 {

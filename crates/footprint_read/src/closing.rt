@@ -4,12 +4,12 @@
 ghost use Rattle.std.specs.Prelude.{◌≡◌, ◌+◌, ℕ, suc, ℤ, cond, ◌==◌, Some, OnOk, IfOk};
 ghost use Rattle.std.specs.BTreeMap as tree;
 ghost use Rattle.courtyard.specs.Ends.{is_same};
-ghost use Rattle.courtyard.specs.Groups.{place_cmp};
+ghost use Rattle.courtyard.specs.EndGroups.{place_cmp};
 ghost use Rattle.footprint_read.specs.Closing.{tally, AreCounts};
 ghost use Rattle.footprint_read.specs.Courtyards.{at, is_long, ends_at, many_at, is_met, is_closed};
 
 use crate::sides::Course;
-use part_read::Spot;
+use part_read::RawPoint;
 use std::alloc::{AllocError, Global};
 use std::collections::BTreeMap;
 
@@ -21,11 +21,11 @@ pub enum Count {
     Many,
 }
 
-/// The place of a spot, as a key.
-fn key_of(spot: Spot) -> (i64, i64)
-    ensures { result ≡ at spot }
+/// The place of a raw point, as a key.
+fn key_of(raw_point: RawPoint) -> (i64, i64)
+    ensures { result ≡ at raw_point }
 {
-    (spot.x, spot.y)
+    (raw_point.x, raw_point.y)
 }
 
 /// Whether the line has a length.
@@ -47,11 +47,11 @@ fn more(found: Option<Count>) -> Count
 }
 
 /// Enters an end at its place.
-fn enter(counts: &mut BTreeMap<(i64, i64), Count>, spot: Spot) -> Result<(), AllocError>
+fn enter(counts: &mut BTreeMap<(i64, i64), Count>, raw_point: RawPoint) -> Result<(), AllocError>
     ensures { OnOk result ((k : ℤ × ℤ) (n : ℕ) → tree.get place_cmp counts.old k ≡ tally n
-        → tree.get place_cmp counts.new k ≡ tally (n + cond (is_same (at spot) k) 1 0)) }
+        → tree.get place_cmp counts.new k ≡ tally (n + cond (is_same (at raw_point) k) 1 0)) }
 {
-    let key = key_of(spot);
+    let key = key_of(raw_point);
     let found = counts.get(&key).copied();
     counts.insert(key, more(found))?;
     Ok(())
@@ -80,12 +80,12 @@ fn counts_of(alloc: Global, lines: &[Course]) -> Result<BTreeMap<(i64, i64), Cou
     Ok(counts)
 }
 
-/// Whether exactly two ends stand at a spot.
-fn has_two(lines: &[Course], counts: &BTreeMap<(i64, i64), Count>, spot: Spot) -> bool
+/// Whether exactly two ends stand at a raw point.
+fn has_two(lines: &[Course], counts: &BTreeMap<(i64, i64), Count>, raw_point: RawPoint) -> bool
     requires { AreCounts lines.now counts.now }
-    ensures { result ≡ many_at (at spot) lines.now == 2 }
+    ensures { result ≡ many_at (at raw_point) lines.now == 2 }
 {
-    let key = key_of(spot);
+    let key = key_of(raw_point);
     is_two(counts.get(&key).copied())
 }
 

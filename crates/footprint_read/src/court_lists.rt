@@ -2,13 +2,13 @@
 //! their lists and added to the side.
 
 ghost use Rattle.std.specs.Prelude.{◌≡◌, ◌<◌, ◌∷◌, [], IfOk, OnOk};
-ghost use Rattle.sexpr_read.specs.Views.{tree_of};
-ghost use Rattle.list_read.specs.Heads.{has_head};
-ghost use Rattle.list_read.specs.Elements.{element};
-ghost use Rattle.part_read.specs.Elements.{in_needed};
-ghost use Rattle.part_read.specs.Nodes.{Leaves};
-ghost use Rattle.part_read.specs.Numbers.{spot_at};
-ghost use Rattle.part_read.specs.Stances.{IsReadSpot, IsStanceSpot};
+ghost use Rattle.sexpr_read.specs.TreeViews.{tree_of};
+ghost use Rattle.list_read.specs.ListHeads.{has_head};
+ghost use Rattle.list_read.specs.NamedElements.{element};
+ghost use Rattle.part_read.specs.ElementResults.{in_needed};
+ghost use Rattle.part_read.specs.NodeResults.{Leaves};
+ghost use Rattle.part_read.specs.BoardNumbers.{raw_point_at};
+ghost use Rattle.part_read.specs.Placements.{IsReadRawPoint, IsPlacementRawPoint};
 ghost use Rattle.part_read.specs.Figures.{HasReach};
 ghost use Rattle.footprint_read.specs.Courtyards.{empty_side, side_then, figure_side, line_side, rect_side, circle_side, has_arc, outline_side, graphic_side};
 ghost use Rattle.footprint_read.specs.Appending.{onto_side};
@@ -17,21 +17,21 @@ use crate::sides::{Course, CourtSide};
 use board_items::BoardError;
 use list_read::{element, has_head};
 use part_read::{
-    Corners, Drawing, Figure, GraphicKind, Spot, Stance, missing, radius_between, spot_in,
-    spots_in, stand,
+    Corners, Drawing, Figure, GraphicKind, Placement, RawPoint, missing, radius_between,
+    raw_point_in, raw_points_in, stand,
 };
 use sexpr_read::Node;
 use std::alloc::{AllocError, Global};
 
-/// The spot of an element which must be there.
-fn spot_needed(node: Node<'_, '_>, head: &[u8]) -> Result<Spot, BoardError>
-    ensures spot { result
-        ≡ in_needed spot_at (tree_of node.entry) (element head.now (tree_of node.entry)) }
-    ensures within { IfOk result IsReadSpot }
+/// The raw point of an element which must be there.
+fn raw_point_needed(node: Node<'_, '_>, head: &[u8]) -> Result<RawPoint, BoardError>
+    ensures raw_point { result
+        ≡ in_needed raw_point_at (tree_of node.entry) (element head.now (tree_of node.entry)) }
+    ensures within { IfOk result IsReadRawPoint }
 {
     match element(node, head) {
         None => Err(missing(node)),
-        Some(list) => spot_in(list),
+        Some(list) => raw_point_in(list),
     }
 }
 
@@ -56,18 +56,23 @@ fn add_course(side: &mut CourtSide, course: Course) -> Result<(), AllocError>
     side.lines.push(course)
 }
 
-/// Adds a line, which goes from one spot of the board to another.
+/// Adds a line, which goes from one raw point of the board to another.
 #[tactic(auto, unfolding(crate::specs::Courtyards::line_side))]
-fn add_line(stance: Stance, side: &mut CourtSide, node: Node<'_, '_>) -> Result<(), BoardError>
-    requires quarter { stance.quarter < 4 }
-    requires at { IsStanceSpot stance.at }
-    ensures { Leaves result side.new (onto_side side.old (line_side stance (tree_of node.entry))) }
+fn add_line(
+    placement: Placement,
+    side: &mut CourtSide,
+    node: Node<'_, '_>,
+) -> Result<(), BoardError>
+    requires quarter { placement.quarter < 4 }
+    requires at { IsPlacementRawPoint placement.at }
+    ensures { Leaves result side.new
+        (onto_side side.old (line_side placement (tree_of node.entry))) }
 {
-    let start = spot_needed(node, b"start")?;
-    let end = spot_needed(node, b"end")?;
+    let start = raw_point_needed(node, b"start")?;
+    let end = raw_point_needed(node, b"end")?;
     let course = Course {
-        a: stand(stance, start),
-        b: stand(stance, end),
+        a: stand(placement, start),
+        b: stand(placement, end),
     };
     Ok(add_course(side, course)?)
 }
@@ -77,8 +82,8 @@ fn add_line(stance: Stance, side: &mut CourtSide, node: Node<'_, '_>) -> Result<
 fn add_rect(side: &mut CourtSide, node: Node<'_, '_>) -> Result<(), BoardError>
     ensures { Leaves result side.new (onto_side side.old (rect_side (tree_of node.entry))) }
 {
-    let start = spot_needed(node, b"start")?;
-    let end = spot_needed(node, b"end")?;
+    let start = raw_point_needed(node, b"start")?;
+    let end = raw_point_needed(node, b"end")?;
     Ok(add_figure(side, Figure::Rect(start, end))?)
 }
 
@@ -87,13 +92,13 @@ fn add_rect(side: &mut CourtSide, node: Node<'_, '_>) -> Result<(), BoardError>
 fn add_circle(side: &mut CourtSide, node: Node<'_, '_>) -> Result<(), BoardError>
     ensures { Leaves result side.new (onto_side side.old (circle_side (tree_of node.entry))) }
 {
-    let center = spot_needed(node, b"center")?;
-    let end = spot_needed(node, b"end")?;
+    let center = raw_point_needed(node, b"center")?;
+    let end = raw_point_needed(node, b"end")?;
     let radius = radius_between(center, end);
     Ok(add_figure(side, Figure::Circle(center, radius))?)
 }
 
-/// Whether an arc stands among the spots.
+/// Whether an arc stands among the raw points.
 fn has_arc(list: Node<'_, '_>) -> bool
     ensures { result ≡ has_arc (tree_of list.entry) }
 {
@@ -113,32 +118,32 @@ fn add_outline(alloc: Global, side: &mut CourtSide, node: Node<'_, '_>) -> Resul
     let Some(list) = element(node, b"pts") else {
         return Err(missing(node));
     };
-    let spots = spots_in(alloc, list, true)?;
+    let raw_points = raw_points_in(alloc, list, true)?;
     if has_arc(list) {
         side.note_curve();
         return Ok(());
     }
-    if spots.len() < 3 {
+    if raw_points.len() < 3 {
         return Err(missing(list));
     }
-    Ok(add_figure(side, Figure::Outline(Corners::of(spots)))?)
+    Ok(add_figure(side, Figure::Outline(Corners::of(raw_points)))?)
 }
 
 /// Adds a graphic of this kind.
 pub(crate) fn add_graphic(
     alloc: Global,
-    stance: Stance,
+    placement: Placement,
     kind: GraphicKind,
     side: &mut CourtSide,
     node: Node<'_, '_>,
 ) -> Result<(), BoardError>
-    requires quarter { stance.quarter < 4 }
-    requires at { IsStanceSpot stance.at }
+    requires quarter { placement.quarter < 4 }
+    requires at { IsPlacementRawPoint placement.at }
     ensures { Leaves result side.new
-        (onto_side side.old (graphic_side stance kind (tree_of node.entry))) }
+        (onto_side side.old (graphic_side placement kind (tree_of node.entry))) }
 {
     match kind {
-        GraphicKind::Line => add_line(stance, side, node),
+        GraphicKind::Line => add_line(placement, side, node),
         GraphicKind::Rect => add_rect(side, node),
         GraphicKind::Circle => add_circle(side, node),
         GraphicKind::Outline => add_outline(alloc, side, node),

@@ -2,7 +2,7 @@
 //! and no loose line.
 
 ghost use Rattle.std.specs.Prelude.{◌≡◌, ◌<◌, ◌++◌, map, IfOk, OnOk, All, option_map};
-ghost use Rattle.part_read.specs.Stances.{IsStanceSpot};
+ghost use Rattle.part_read.specs.Placements.{IsPlacementRawPoint};
 ghost use Rattle.part_read.specs.Figures.{IsDrawable};
 ghost use Rattle.footprint_read.specs.Bare.{AreBare};
 ghost use Rattle.footprint_read.specs.Courtyards.{seg_of, segs_of, figure_parts, outline_part, parts_in, IsCourt};
@@ -13,7 +13,7 @@ use board_items::{Part, Parts};
 use copper_layers::LayerSet;
 use courtyard::closed_outlines;
 use geo_seg::{Core, Poly, Seg};
-use part_read::{Drawing, Stance, around, draw_into, no_radius, point_at};
+use part_read::{Drawing, Placement, around, draw_into, no_radius, point_at};
 use smallvec::SmallVec;
 use std::alloc::{AllocError, Global};
 
@@ -66,19 +66,19 @@ fn segs_of(alloc: Global, lines: &[Course]) -> Result<Option<Vec<Seg>>, AllocErr
 /// outline keeps the boxes of its runs of corners.
 fn figure_parts(
     alloc: Global,
-    stance: Stance,
+    placement: Placement,
     drawings: &[Drawing],
 ) -> Result<Option<SmallVec<Part, 1>>, AllocError>
-    requires quarter { stance.quarter < 4 }
-    requires at { IsStanceSpot stance.at }
+    requires quarter { placement.quarter < 4 }
+    requires at { IsPlacementRawPoint placement.at }
     requires drawable { All IsDrawable drawings.now }
     ensures { IfOk result (λ parts.
-        option_map (λ found. found.items) parts ≡ figure_parts stance drawings.now) }
+        option_map (λ found. found.items) parts ≡ figure_parts placement drawings.now) }
 {
     let layers = LayerSet { bits: 0 };
     let mut parts = SmallVec::new(alloc);
     for drawing in drawings {
-        if !draw_into(alloc, layers, stance, drawing, &mut parts)? {
+        if !draw_into(alloc, layers, placement, drawing, &mut parts)? {
             return Ok(None);
         }
     }
@@ -110,21 +110,25 @@ fn append_outlines(parts: &mut SmallVec<Part, 1>, polys: Vec<Poly>) -> Result<()
 /// The courtyard of a side, in the footprint that stands so: its figures, and then the closed
 /// outlines of its lines.
 #[tactic(auto, using(crate::proofs::Bared::court_bare))]
-pub(crate) fn court_of(alloc: Global, stance: Stance, side: &CourtSide) -> Result<Court, AllocError>
-    requires quarter { stance.quarter < 4 }
-    requires at { IsStanceSpot stance.at }
-    ensures court { IfOk result (IsCourt stance side.now) }
+pub(crate) fn court_of(
+    alloc: Global,
+    placement: Placement,
+    side: &CourtSide,
+) -> Result<Court, AllocError>
+    requires quarter { placement.quarter < 4 }
+    requires at { IsPlacementRawPoint placement.at }
+    ensures court { IfOk result (IsCourt placement side.now) }
     ensures bare { IfOk result (λ court. AreBare (parts_in court)) }
 {
-    let court = court_by(alloc, stance, side)?;
+    let court = court_by(alloc, placement, side)?;
     Ok(court)
 }
 
 /// The courtyard of a side, by its definition alone.
-fn court_by(alloc: Global, stance: Stance, side: &CourtSide) -> Result<Court, AllocError>
-    requires quarter { stance.quarter < 4 }
-    requires at { IsStanceSpot stance.at }
-    ensures { IfOk result (IsCourt stance side.now) }
+fn court_by(alloc: Global, placement: Placement, side: &CourtSide) -> Result<Court, AllocError>
+    requires quarter { placement.quarter < 4 }
+    requires at { IsPlacementRawPoint placement.at }
+    ensures { IfOk result (IsCourt placement side.now) }
 {
     if side.curved {
         return Ok(Court::Unchecked);
@@ -132,7 +136,7 @@ fn court_by(alloc: Global, stance: Stance, side: &CourtSide) -> Result<Court, Al
     if !is_closed(alloc, side.lines.as_slice())? {
         return Ok(Court::Unchecked);
     }
-    let Some(mut parts) = figure_parts(alloc, stance, side.drawings.as_slice())? else {
+    let Some(mut parts) = figure_parts(alloc, placement, side.drawings.as_slice())? else {
         return Ok(Court::Off);
     };
     let Some(segs) = segs_of(alloc, side.lines.as_slice())? else {

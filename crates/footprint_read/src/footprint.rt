@@ -2,15 +2,15 @@
 //! and the notes, where it lies on the board and there is room.
 
 ghost use Rattle.std.specs.Prelude.{◌≡◌, ◌<◌, ◌∷◌, ◌++◌, [], codes, true, is_some, IfOk, OnOk, All};
-ghost use Rattle.sexpr_read.specs.Views.{tree_of};
+ghost use Rattle.sexpr_read.specs.TreeViews.{tree_of};
 ghost use Rattle.board_items.specs.Boards.{name_of};
 ghost use Rattle.part_read.specs.Lists.{GivesItems};
 ghost use Rattle.part_read.specs.OnBoard.{fits_board};
 ghost use Rattle.part_read.specs.Ready.{IsReady, AreReady};
-ghost use Rattle.part_read.specs.Stances.{IsStanceSpot};
+ghost use Rattle.part_read.specs.Placements.{IsPlacementRawPoint};
 ghost use Rattle.footprint_read.specs.Courtyards.{IsCourt, parts_in, lies_on_board};
 ghost use Rattle.footprint_read.specs.Bare.{AreBare};
-ghost use Rattle.footprint_read.specs.FootprintOf.{given_at, items_of, body_of, court_notes, all_given, with_room, in_room, is_placed, finished, SaysItems};
+ghost use Rattle.footprint_read.specs.FootprintOf.{given_at, items_of, body_of, court_notes, all_given, with_reserved, in_capacity, is_placed, finished, SaysItems};
 
 use crate::children::contents_of;
 use crate::contents::{AllGiven, Contents, Given};
@@ -21,7 +21,7 @@ use board_items::{About, Board, BoardError, Boxed, Item, Parts, What};
 use drc_io::Name;
 use list_read::place;
 use pad_read::Head;
-use part_read::{Stance, fits_board, has_room_after, name_of_list, no_parts, plain_item};
+use part_read::{Placement, fits_board, has_capacity_after, name_of_list, no_parts, plain_item};
 use plain_types::one;
 use sexpr_read::Node;
 use std::alloc::{AllocError, Global};
@@ -114,7 +114,7 @@ fn body_of(
 ) -> Result<Item, AllocError>
     ensures { IfOk result (λ body. body ≡ body_of unit head (tree_of node.entry) front back) }
 {
-    let at = head.stance.at;
+    let at = head.placement.at;
     let on_back = head.on_back;
     let Yards {
         reference,
@@ -280,11 +280,11 @@ fn all_given(
 
 /// Whether the board has room for all of them: the first one without is refused at the list that
 /// gives it.
-fn check_room(board: &Board, unit: u32, all: &[Given]) -> Result<(), BoardError>
-    ensures { result ≡ with_room board.now unit 0 all.now }
+fn check_capacity(board: &Board, unit: u32, all: &[Given]) -> Result<(), BoardError>
+    ensures { result ≡ with_reserved board.now unit 0 all.now }
 {
     for i in 0..all.len() {
-        if !has_room_after(i, board, unit) {
+        if !has_capacity_after(i, board, unit) {
             return Err(BoardError::TooMany { at: all[i].place });
         }
     }
@@ -303,15 +303,15 @@ fn items_of(alloc: Global, all: Vec<Given>) -> Result<Vec<Item>, AllocError>
 }
 
 /// The items, where the board has room for them.
-fn in_room(
+fn in_capacity(
     alloc: Global,
     board: &Board,
     unit: u32,
     all: Vec<Given>,
 ) -> Result<Vec<Item>, BoardError>
-    ensures { GivesItems result (in_room board.now unit all.items) }
+    ensures { GivesItems result (in_capacity board.now unit all.items) }
 {
-    check_room(board, unit, &all)?;
+    check_capacity(board, unit, &all)?;
     Ok(items_of(alloc, all)?)
 }
 
@@ -321,7 +321,7 @@ fn in_room(
 fn is_placed(head: &Head, front: &Court, back: &Court) -> bool
     ensures { result ≡ is_placed head.now front.now back.now }
 {
-    fits_board(head.stance.at) && (lies_on_board(front) && lies_on_board(back))
+    fits_board(head.placement.at) && (lies_on_board(front) && lies_on_board(back))
 }
 
 /// The items, where the body lies on the board with its courtyards and there is room.
@@ -351,21 +351,21 @@ fn finished(
     }
     let Courts { front, back } = courts;
     let all = all_given(alloc, unit, head, node, given, front, back)?;
-    let items = in_room(alloc, board, unit, all.into_list())?;
+    let items = in_capacity(alloc, board, unit, all.into_list())?;
     Ok(items)
 }
 
 /// The courtyards of both sides.
-fn courts_of(alloc: Global, stance: Stance, contents: &Contents) -> Result<Courts, AllocError>
-    requires quarter { stance.quarter < 4 }
-    requires at { IsStanceSpot stance.at }
-    ensures front { IfOk result (λ courts. IsCourt stance contents.now.front courts.front) }
-    ensures back { IfOk result (λ courts. IsCourt stance contents.now.back courts.back) }
+fn courts_of(alloc: Global, placement: Placement, contents: &Contents) -> Result<Courts, AllocError>
+    requires quarter { placement.quarter < 4 }
+    requires at { IsPlacementRawPoint placement.at }
+    ensures front { IfOk result (λ courts. IsCourt placement contents.now.front courts.front) }
+    ensures back { IfOk result (λ courts. IsCourt placement contents.now.back courts.back) }
     ensures front_bare { IfOk result (λ courts. AreBare (parts_in courts.front)) }
     ensures back_bare { IfOk result (λ courts. AreBare (parts_in courts.back)) }
 {
-    let front = court_of(alloc, stance, &contents.front)?;
-    match court_of(alloc, stance, &contents.back) {
+    let front = court_of(alloc, placement, &contents.front)?;
+    match court_of(alloc, placement, &contents.back) {
         Ok(back) => Ok(Courts { front, back }),
         Err(error) => {
             drop(front);
@@ -379,7 +379,7 @@ fn courts_of(alloc: Global, stance: Stance, contents: &Contents) -> Result<Court
 /// them, one after another.
 ///
 /// Its refusals are those of [`BoardError`], exactly where the items of a footprint
-/// (`specs/FootprintOf`) have them, with their places; want of memory alone is free.
+/// (`specs/FootprintOf`) have them, with their places; running out of memory alone is free.
 #[tactic(auto, using(crate::proofs::Standing::wider))]
 pub fn read_footprint(
     alloc: Global,
@@ -393,7 +393,7 @@ pub fn read_footprint(
     board.soundness();
     let head = head_of(alloc, board.copper(), node)?;
     let contents = contents_of(alloc, board, unit, &head, node)?;
-    let courts = match courts_of(alloc, head.stance, &contents) {
+    let courts = match courts_of(alloc, head.placement, &contents) {
         Ok(courts) => courts,
         Err(_) => {
             drop(head);

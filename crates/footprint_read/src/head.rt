@@ -3,17 +3,17 @@
 
 ghost use Rattle.std.specs.Prelude.{◌≡◌, ◌<◌, find, option_map, IfOk};
 ghost use Rattle.sexpr_read.specs.Tree.{parts};
-ghost use Rattle.sexpr_read.specs.Views.{tree_of};
-ghost use Rattle.part_read.specs.Nodes.{Gives};
-ghost use Rattle.part_read.specs.Stances.{IsReadSpot};
+ghost use Rattle.sexpr_read.specs.TreeViews.{tree_of};
+ghost use Rattle.part_read.specs.NodeResults.{Gives};
+ghost use Rattle.part_read.specs.Placements.{IsReadRawPoint};
 ghost use Rattle.footprint_read.specs.FootHead.{side_of, says, second_text, reference_of, head_of};
 
 use board_items::BoardError;
 use copper_layers::LayerSet;
 use drc_io::Name;
 use list_read::{element, has_head, name_from, place};
-use pad_read::{Head, clearance_of, posture_of, quarters_of};
-use part_read::{Stance, copper_in, first_atom, missing, second_atom};
+use pad_read::{Head, clearance_of, local_placement_of, quarters_of};
+use part_read::{Placement, copper_in, first_atom, missing, second_atom};
 use sexpr_read::Node;
 use std::alloc::Global;
 
@@ -91,21 +91,21 @@ pub(crate) fn head_of(
     node: Node<'_, '_>,
 ) -> Result<Head, BoardError>
     ensures head { Gives result (head_of copper (tree_of node.entry)) }
-    ensures within { IfOk result (λ head. IsReadSpot head.stance.at) }
-    ensures below { IfOk result (λ head. head.stance.quarter < 4) }
+    ensures within { IfOk result (λ head. IsReadRawPoint head.placement.at) }
+    ensures below { IfOk result (λ head. head.placement.quarter < 4) }
 {
     let on_back = side_of(copper, node)?;
-    let posture = posture_of(node)?;
-    let Some(quarter) = quarters_of(posture) else {
+    let local_placement = local_placement_of(node)?;
+    let Some(quarter) = quarters_of(local_placement) else {
         return Err(BoardError::Turned { at: place(node) });
     };
     let reference = reference_of(alloc, node)?;
     let clearance = clearance_of(node)?;
     Ok(Head {
         on_back,
-        stance: Stance {
+        placement: Placement {
             quarter,
-            at: posture.at,
+            at: local_placement.at,
         },
         reference,
         clearance,

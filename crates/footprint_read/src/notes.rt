@@ -1,13 +1,13 @@
 //! The note of something in a footprint that is not checked.
 
 ghost use Rattle.std.specs.Prelude.{◌≡◌, IfOk};
-ghost use Rattle.sexpr_read.specs.Views.{tree_of};
-ghost use Rattle.part_read.specs.Elements.{name_in};
+ghost use Rattle.sexpr_read.specs.TreeViews.{tree_of};
+ghost use Rattle.part_read.specs.ElementResults.{name_in};
 ghost use Rattle.part_read.specs.Graphics.{note_of};
 
 use board_items::{About, Boxed, Item, What};
 use drc_io::Name;
-use part_read::{Spot, name_of_list, no_parts, plain_item};
+use part_read::{RawPoint, name_of_list, no_parts, plain_item};
 use sexpr_read::Node;
 use std::alloc::{AllocError, Global};
 
@@ -24,7 +24,7 @@ pub(crate) fn note_on(
 {
     let name = name_of_list(alloc, node)?;
     let layer = Boxed::new(alloc, Name::from_slice(alloc, layer.as_bytes())?)?;
-    let at = Spot { x: 0, y: 0 };
+    let at = RawPoint { x: 0, y: 0 };
     Ok(plain_item(
         name,
         unit,

@@ -4,15 +4,15 @@
 ghost use Rattle.std.specs.Prelude.{◌≡◌, ◌++◌, ◌∷◌, [], OnOk, All};
 ghost use Rattle.part_read.specs.Figures.{IsDrawable};
 
-use part_read::{Drawing, Spot};
+use part_read::{Drawing, RawPoint};
 use std::alloc::{AllocError, Global};
 use std::marker::Model;
 
-/// A line from one spot of the board to another, on the board or off it.
+/// A line from one raw point of the board to another, on the board or off it.
 #[derive(Clone, Copy, Debug, PartialEq, Eq, Drop)]
 pub struct Course {
-    pub a: Spot,
-    pub b: Spot,
+    pub a: RawPoint,
+    pub b: RawPoint,
 }
 
 /// Drawings, relative to the footprint, all of which can be drawn. Contracts see the list.

@@ -5,13 +5,13 @@ use Rattle.int_algebra.proofs.Ring.{var, num, ◌⊕◌, ◌⊖◌, ◌⊗◌, s
 use Rattle.int_algebra.proofs.Order.{square-nonneg, sum-nonneg, same_by_scale}
 use Rattle.geo_seg.specs.declared.points.Point.{Point}
 use Rattle.geo_seg.specs.declared.points.Seg.{Seg}
-use Rattle.geo_seg.specs.Points.{Spot, IsAt, IsOn, spot_of}
+use Rattle.geo_seg.specs.Points.{RationalPoint, IsAt, IsOn, rational_point_of}
 use Rattle.geo_seg.specs.Nearer.{square, squared_limit, IsNearer, AreApart, AreWithin}
 use Rattle.geo_seg.specs.Inside.{edge, outline, SomeEdge, EachEdge, IsInside}
 use Rattle.geo_seg.proofs.BoxLemmas.{start_on}
-use Rattle.geo_seg.proofs.PointReach.{spot_of-IsAt}
+use Rattle.geo_seg.proofs.PointReach.{rational_point_of-IsAt}
 use Rattle.geo_seg.proofs.SegAnswers.{met_of_reached}
-use Rattle.geo_poly.specs.Outlines.{IsApart, IsReached, EachApart, SomeReached, IsEnclosed, EndsInside}
+use Rattle.geo_poly.specs.OutlineEdges.{IsApart, IsReached, EachApart, SomeReached, IsEnclosed, EndsInside}
 use Rattle.geo_poly.proofs.Insides.{enclosed_where, enters_where, poly_seg_apart_same, poly_seg_within_same, poly_apart_same, poly_within_same}
 use Rattle.geo_poly.proofs.Ways.{SomeEdge-weaker}
 use Rattle.geo_poly.proofs.Reach.{touches_within, seg_reached_where, seg_apart_where}
@@ -22,7 +22,7 @@ pub iff_at : {A B : Type 0} (P : A → Type 0) (x y : A) → x ≡ y → (B ↔ 
 iff_at {B = B} P x y e h = subst (λ z. B ↔ P z) e h
 
 -- ---- nothing is nearer than 0
-pub not_nearer_zero : (p q : Spot) → ¬ (IsNearer (pos 0) p q)
+pub not_nearer_zero : (p q : RationalPoint) → ¬ (IsNearer (pos 0) p q)
 not_nearer_zero p q n =
     let gx = p.x *ℤ q.w -ℤ q.x *ℤ p.w in let gy = p.y *ℤ q.w -ℤ q.y *ℤ p.w in
     bad (square gx +ℤ square gy) (squared_limit (pos 0) p q) (sum-nonneg (square gx) (square gy) (square-nonneg gx) (square-nonneg gy)) (ring (p.w ∷ q.w ∷ []) (sq (num (pos 0) ⊗ var 0 ⊗ var 1)) (num (pos 0)) tt) n
@@ -30,7 +30,7 @@ not_nearer_zero p q n =
     bad : (s u : ℤ) → pos 0 ≤ℤ s → u ≡ pos 0 → s <ℤ u → ⊥
     bad s u h e l = omega (arith, ints)
 
-pub apart_zero : (P Q : Spot → Type 0) → AreApart P Q (pos 0)
+pub apart_zero : (P Q : RationalPoint → Type 0) → AreApart P Q (pos 0)
 apart_zero P Q = record { apart = λ p q o u n. not_nearer_zero p q n }
 
 -- ---- a point on an edge
@@ -43,10 +43,10 @@ on_point m i rx rw z n j a b hm hw e f =
     (fact (num (pos 0) ⊖ N) (M ⊗ Rx) (Rw ⊗ ((M ⊖ I) ⊗ Z ⊕ I ⊗ Z)) ∷ fact M (N ⊗ Rx) (Rw ⊗ ((N ⊖ J) ⊗ A ⊕ J ⊗ B)) ∷ []) (e, (f, tt))
     (Rw ⊗ (M ⊗ (N ⊗ Z))) (Rw ⊗ (M ⊗ (num (pos 1) ⊗ ((N ⊖ J) ⊗ A ⊕ J ⊗ B)))) tt))
 
-on_of_reached : (e : Seg) (p : Point) → IsReached e (edge p p) (pos 0) → IsOn e (spot_of p)
-unfolding spot_of
+on_of_reached : (e : Seg) (p : Point) → IsReached e (edge p p) (pos 0) → IsOn e (rational_point_of p)
+unfolding rational_point_of
 on_of_reached e p h =
-    let m = met_of_reached e (edge p p) h in let r = m.spot in let o = m.of_first in let u = m.of_second in
+    let m = met_of_reached e (edge p p) h in let r = m.rational_point in let o = m.of_first in let u = m.of_second in
     record {
       part = o.part;
       whole = o.whole;
@@ -57,10 +57,10 @@ on_of_reached e p h =
       along_y = on_point u.whole u.part r.y r.w p.y o.whole o.part e.a.y e.b.y u.positive r.positive u.along_y o.along_y;
     }
 
-reached_of_on : (e : Seg) (p : Point) → IsOn e (spot_of p) → IsReached e (edge p p) (pos 0)
-reached_of_on e p o = record { from = spot_of p; to = spot_of p; of_first = o; of_second = start_on (edge p p); within = touches_within (pos 0) (spot_of p) }
+reached_of_on : (e : Seg) (p : Point) → IsOn e (rational_point_of p) → IsReached e (edge p p) (pos 0)
+reached_of_on e p o = record { from = rational_point_of p; to = rational_point_of p; of_first = o; of_second = start_on (edge p p); within = touches_within (pos 0) (rational_point_of p) }
 
-pub on_where : (cs : List Point) (p : Point) → SomeEdge (λ e. IsReached e (edge p p) (pos 0)) (outline cs) ↔ SomeEdge (λ e. IsOn e (spot_of p)) (outline cs)
+pub on_where : (cs : List Point) (p : Point) → SomeEdge (λ e. IsReached e (edge p p) (pos 0)) (outline cs) ↔ SomeEdge (λ e. IsOn e (rational_point_of p)) (outline cs)
 on_where cs p = (SomeEdge-weaker (λ e. on_of_reached e p) (outline cs), SomeEdge-weaker (λ e. reached_of_on e p) (outline cs))
 
 -- ---- the theorems in the form of the code
@@ -75,14 +75,14 @@ crossed : {A B C D : Type 0} → (A → D) → (B → C) → A ⊎ B → C ⊎ D
 crossed f g (inl a) = inr (f a)
 crossed f g (inr b) = inl (g b)
 
-pub seg_within_code : (d : ℤ) (cs : List Point) (s : Seg) → AreWithin (IsInside cs) (IsOn s) d ↔ (IsEnclosed cs (spot_of s.a) ⊎ SomeEdge (λ e. IsReached e s d) (outline cs))
+pub seg_within_code : (d : ℤ) (cs : List Point) (s : Seg) → AreWithin (IsInside cs) (IsOn s) d ↔ (IsEnclosed cs (rational_point_of s.a) ⊎ SomeEdge (λ e. IsReached e s d) (outline cs))
 seg_within_code d cs s =
-    let e = enclosed_where cs (spot_of s.a) in
+    let e = enclosed_where cs (rational_point_of s.a) in
     both (poly_seg_within_same cs s d) (both (seg_reached_where d cs s) (crossed (λ x. x) e.1, crossed e.0 (λ x. x)))
 
-pub seg_apart_code : (d : ℤ) → pos 0 <ℤ d → (cs : List Point) (s : Seg) → AreApart (IsInside cs) (IsOn s) d ↔ ((¬ (IsEnclosed cs (spot_of s.a))) × EachEdge (λ e. IsApart e s d) (outline cs))
+pub seg_apart_code : (d : ℤ) → pos 0 <ℤ d → (cs : List Point) (s : Seg) → AreApart (IsInside cs) (IsOn s) d ↔ ((¬ (IsEnclosed cs (rational_point_of s.a))) × EachEdge (λ e. IsApart e s d) (outline cs))
 seg_apart_code d hd cs s =
-    let e = enclosed_where cs (spot_of s.a) in
+    let e = enclosed_where cs (rational_point_of s.a) in
     both (poly_seg_apart_same cs s d) (both (seg_apart_where d hd cs s) (λ x. (λ k. x.1 (e.0 k), x.0), λ x. (x.1, λ k. x.0 (e.1 k))))
 
 no_either : {A B : Type 0} → (A → ⊥) → (B → ⊥) → A ⊎ B → ⊥
@@ -100,19 +100,19 @@ poly_apart_code d hd cs ks =
     both (poly_apart_same cs ks d) (both (poly_apart_where d hd cs ks)
     (λ x. (no_either (λ k. x.1 (e.0 k)) (λ k. x.2 (f.0 k)), x.0), λ x. (x.1, (λ k. x.0 (inl (e.1 k))), (λ k. x.0 (inr (f.1 k))))))
 
-pub inside_code : (cs : List Point) (p : Point) → IsInside cs (spot_of p) ↔ (IsEnclosed cs (spot_of p) ⊎ SomeEdge (λ e. IsReached e (edge p p) (pos 0)) (outline cs))
+pub inside_code : (cs : List Point) (p : Point) → IsInside cs (rational_point_of p) ↔ (IsEnclosed cs (rational_point_of p) ⊎ SomeEdge (λ e. IsReached e (edge p p) (pos 0)) (outline cs))
 inside_code cs p = let e = on_where cs p in (crossed e.1 (λ x. x), crossed (λ x. x) e.0)
 
 -- a point of the polygon is within 0 of it
-pub within_of_inside : (cs : List Point) (p : Point) → IsInside cs (spot_of p) → AreWithin (IsAt p) (IsInside cs) (pos 0)
-within_of_inside cs p h = record { from = spot_of p; to = spot_of p; of_first = spot_of-IsAt p; of_second = h; within = touches_within (pos 0) (spot_of p) }
+pub within_of_inside : (cs : List Point) (p : Point) → IsInside cs (rational_point_of p) → AreWithin (IsAt p) (IsInside cs) (pos 0)
+within_of_inside cs p h = record { from = rational_point_of p; to = rational_point_of p; of_first = rational_point_of-IsAt p; of_second = h; within = touches_within (pos 0) (rational_point_of p) }
 
 -- ---- the last corner
-pub ends_inside_is : (cs ks : List Point) (x : Point) (b : Bool) → 0 < length cs → x ≡ get_or cs (length cs - 1) x → (IsTrue b ↔ IsEnclosed ks (spot_of x)) → (IsTrue b ↔ EndsInside cs ks)
+pub ends_inside_is : (cs ks : List Point) (x : Point) (b : Bool) → 0 < length cs → x ≡ get_or cs (length cs - 1) x → (IsTrue b ↔ IsEnclosed ks (rational_point_of x)) → (IsTrue b ↔ EndsInside cs ks)
 ends_inside_is [] ks x b h e q = absurd (omega arith)
 ends_inside_is (c ∷ cs) ks x b h e q =
     let i : length (c ∷ cs) - 1 ≡ length cs = omega arith in
-    subst (λ z. IsTrue b ↔ IsEnclosed ks (spot_of z)) (e ∙ ap (λ k. get_or (c ∷ cs) k x) i ∙ last_at c x cs) q
+    subst (λ z. IsTrue b ↔ IsEnclosed ks (rational_point_of z)) (e ∙ ap (λ k. get_or (c ∷ cs) k x) i ∙ last_at c x cs) q
 
 -- ---- a list of edges in two parts
 pub each_append : (P : Seg → Type 0) (X Y : List Seg) → EachEdge P (X ++ Y) ↔ (EachEdge P X × EachEdge P Y)

@@ -1,11 +1,11 @@
--- A spot on the way from one spot to another.
+-- A rational point on the way from one rational point to another.
 use Rattle.std.proofs.Common.{◌≡◌, ℤ, pos, ◌+ℤ◌, ◌-ℤ◌, ◌*ℤ◌, ◌≤ℤ◌, ◌<ℤ◌, [], ◌∷◌, arith}
 use Rattle.std.proofs.lemmas.Int.{ints}
 use Rattle.int_algebra.proofs.Ring.{var, num, ◌⊕◌, ◌⊖◌, ◌⊗◌, fact, ring_by}
-use Rattle.geo_seg.specs.Points.{Spot}
+use Rattle.geo_seg.specs.Points.{RationalPoint}
 
 -- r lies part / whole of the way from p to q
-pub record IsBetween (p q r : Spot) : Type 0 where
+pub record IsBetween (p q r : RationalPoint) : Type 0 where
   pub part : ℤ
   pub whole : ℤ
   pub starts : pos 0 ≤ℤ part
@@ -20,7 +20,7 @@ back_at m i pw qw px qx rw rx h =
     ring_by (m ∷ i ∷ pw ∷ qw ∷ px ∷ qx ∷ rw ∷ rx ∷ []) (fact (num (pos 1)) (M ⊗ (Pw ⊗ Qw ⊗ Rx)) (Rw ⊗ ((M ⊖ I) ⊗ (Px ⊗ Qw) ⊕ I ⊗ (Qx ⊗ Pw))) ∷ []) (h, tt)
     (M ⊗ (Qw ⊗ Pw ⊗ Rx)) (Rw ⊗ ((M ⊖ (M ⊖ I)) ⊗ (Qx ⊗ Pw) ⊕ (M ⊖ I) ⊗ (Px ⊗ Qw))) tt
 
-pub IsBetween-back : (p q r : Spot) → IsBetween p q r → IsBetween q p r
+pub IsBetween-back : (p q r : RationalPoint) → IsBetween p q r → IsBetween q p r
 IsBetween-back p q r b = record {
   part = b.whole -ℤ b.part;
   whole = b.whole;

@@ -4,18 +4,18 @@ use Rattle.std.proofs.lemmas.Int.{ints}
 use Rattle.geo_seg.specs.declared.points.Point.{Point}
 use Rattle.geo_seg.specs.declared.points.Seg.{Seg}
 use Rattle.geo_seg.specs.declared.boxes.Bounds.{Bounds}
-use Rattle.geo_seg.specs.Points.{Spot, IsOn}
+use Rattle.geo_seg.specs.Points.{RationalPoint, IsOn}
 use Rattle.geo_seg.specs.Boxes.{IsInBox, IsLeastBox, AreClear}
-use Rattle.geo_seg.specs.Runs.{AreEndsHeld}
+use Rattle.geo_seg.specs.RunBoxes.{AreEndsHeld}
 use Rattle.geo_seg.specs.Inside.{outline, EachEdge, SomeEdge, IsInside}
 use Rattle.geo_seg.proofs.BoxLemmas.{on_in_box, clear_not_nearer}
-use Rattle.geo_poly.specs.Outlines.{IsApart, IsReached, EachApart, SomeReached}
+use Rattle.geo_poly.specs.OutlineEdges.{IsApart, IsReached, EachApart, SomeReached}
 use Rattle.geo_seg.proofs.Distances.{apart_not_within}
 use Rattle.geo_poly.proofs.Reach.{each_by}
 
 -- the box holds the edge
 abbrev pub Covers : Bounds → Seg → Type 0
-Covers b e = (p : Spot) → IsOn e p → IsInBox b p
+Covers b e = (p : RationalPoint) → IsOn e p → IsInBox b p
 
 pub covers_ends : (b : Bounds) (e : Seg) → AreEndsHeld b e → Covers b e
 covers_ends b e h p o = on_in_box b e p h.0 h.1 o

@@ -6,8 +6,8 @@ use Rattle.geo_seg.specs.Distances.{IsGap}
 use Rattle.geo_seg.specs.Inside.{EachEdge}
 use Rattle.geo_seg.proofs.Distances.{apart_less}
 use Rattle.geo_seg.proofs.GapLemmas.{Falls, gap_same, gap_whole, gap_along, gap_both}
-use Rattle.geo_poly.specs.Outlines.{IsApart, EachApart}
-use Rattle.geo_poly.specs.Runs.{between}
+use Rattle.geo_poly.specs.OutlineEdges.{IsApart, EachApart}
+use Rattle.geo_poly.specs.EdgeRuns.{between}
 use Rattle.geo_poly.proofs.RunLemmas.{each_on, each_part, apart_on, apart_part}
 
 pub edge_falls : (s e : Seg) → Falls (λ d. IsApart e s d)

@@ -7,7 +7,7 @@ use Rattle.std.specs.Int.Signed.{le_z}
 use Rattle.int_algebra.proofs.Ring.{var, num, ◌⊖◌, ◌⊗◌, ring}
 use Rattle.geo_seg.specs.declared.points.Point.{Point}
 use Rattle.geo_seg.specs.declared.points.Seg.{Seg}
-use Rattle.geo_seg.specs.Points.{spot_of}
+use Rattle.geo_seg.specs.Points.{rational_point_of}
 use Rattle.geo_seg.specs.Gap.{cross_of}
 use Rattle.geo_seg.specs.Inside.{edge, path, EachEdge, SomeEdge, is_low, side, passing, passes}
 
@@ -22,20 +22,20 @@ path_end a cs i h = ap (path a) (drop_all i cs h)
 one_mul : (z : ℤ) → pos 1 *ℤ z ≡ z
 one_mul z = omega (arith, ints)
 
-pub low_at : (p c : Point) → is_low (spot_of p) c ≡ le_z c.y p.y
-unfolding spot_of
+pub low_at : (p c : Point) → is_low (rational_point_of p) c ≡ le_z c.y p.y
+unfolding rational_point_of
 low_at p c = ap (λ z. le_z z p.y) (one_mul c.y)
 
-side_at : (p : Point) (e : Seg) → side e (spot_of p) ≡ cross_of p e
-unfolding spot_of
+side_at : (p : Point) (e : Seg) → side e (rational_point_of p) ≡ cross_of p e
+unfolding rational_point_of
 side_at p e =
     let Px = var 0 in let Py = var 1 in let Ax = var 2 in let Ay = var 3 in let Bx = var 4 in let By = var 5 in
     ring (p.x ∷ p.y ∷ e.a.x ∷ e.a.y ∷ e.b.x ∷ e.b.y ∷ []) ((Bx ⊖ Ax) ⊗ (Py ⊖ num (pos 1) ⊗ Ay) ⊖ (By ⊖ Ay) ⊗ (Px ⊖ num (pos 1) ⊗ Ax)) ((Bx ⊖ Ax) ⊗ (Py ⊖ Ay) ⊖ (By ⊖ Ay) ⊗ (Px ⊖ Ax)) tt
 
-pub passes_at : (p : Point) (e : Seg) (la lb : Bool) (u : ℤ) → u ≡ cross_of p e → le_z e.a.y p.y ≡ la → le_z e.b.y p.y ≡ lb → passing la lb u ≡ passes (spot_of p) e
+pub passes_at : (p : Point) (e : Seg) (la lb : Bool) (u : ℤ) → u ≡ cross_of p e → le_z e.a.y p.y ≡ la → le_z e.b.y p.y ≡ lb → passing la lb u ≡ passes (rational_point_of p) e
 passes_at p e la lb u h ha hb =
     let fa = low_at p e.a ∙ ha in let fb = low_at p e.b ∙ hb in
-    ap (passing la lb) (h ∙ sym (side_at p e)) ∙ ap (λ z. passing z lb (side e (spot_of p))) (sym fa) ∙ ap (λ z. passing (is_low (spot_of p) e.a) z (side e (spot_of p))) (sym fb)
+    ap (passing la lb) (h ∙ sym (side_at p e)) ∙ ap (λ z. passing z lb (side e (rational_point_of p))) (sym fa) ∙ ap (λ z. passing (is_low (rational_point_of p) e.a) z (side e (rational_point_of p))) (sym fb)
 
 -- ---- the loops: O is the outline, X what is left of it
 pub each_step : (P : Seg → Type 0) (O X : List Seg) (e : Seg) (Y : List Seg) → (EachEdge P O ↔ EachEdge P X) → X ≡ e ∷ Y → P e → (EachEdge P O ↔ EachEdge P Y)

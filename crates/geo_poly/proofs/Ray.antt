@@ -1,4 +1,5 @@
--- The ray from a spot to the right: of the edges that pass to the right of the spot, there is a first that the ray meets.
+-- The ray from a rational point to the right: of the edges that pass to the right of the rational point, there is a first that the ray
+-- meets.
 use Rattle.std.proofs.Common.{◌≡◌, ℤ, pos, ◌+ℤ◌, ◌-ℤ◌, ◌*ℤ◌, neg_ℤ, ◌≤ℤ◌, ◌<ℤ◌, ◌⊎◌, Bool, true, false, List, [], ◌∷◌, refl, sym, ap, ◌∙◌, subst, inl, inr, arith}
 use Rattle.std.proofs.lemmas.Int.{ints, by_lt_z}
 use Rattle.std.specs.Int.Signed.{lt_z}
@@ -6,19 +7,19 @@ use Rattle.int_algebra.proofs.Ring.{var, num, ◌⊕◌, ◌⊖◌, ◌⊗◌, m
 use Rattle.int_algebra.proofs.Order.{product-nonneg, lt-le, Below, scale_Below, unscale_Below, Below-le, le-Below, unscale_le, same_by_scale}
 use Rattle.geo_seg.specs.declared.points.Point.{Point}
 use Rattle.geo_seg.specs.declared.points.Seg.{Seg}
-use Rattle.geo_seg.specs.Points.{Spot, IsOn}
-use Rattle.geo_seg.proofs.PointReach.{spot_at, spot_at_IsOn}
+use Rattle.geo_seg.specs.Points.{RationalPoint, IsOn}
+use Rattle.geo_seg.proofs.PointReach.{rational_point_at, rational_point_at_IsOn}
 use Rattle.geo_seg.specs.Inside.{SomeEdge, EachEdge, is_low, side, passing, passes}
 use Rattle.geo_seg.proofs.Parity.{differ, is_odd}
 use Rattle.geo_poly.proofs.Sides.{ReadsLe, ReadsLt, reads_le, reads_lt, on_left}
 use Rattle.geo_poly.proofs.Ways.{ReadsLe_scaled, both_steps}
 
 -- r is as high as q, and not to the left of it
-pub record IsRight (q r : Spot) : Type 0 where
+pub record IsRight (q r : RationalPoint) : Type 0 where
   pub level : r.y *ℤ q.w ≡ q.y *ℤ r.w
   pub right : (q.x *ℤ r.w) ≤ℤ (r.x *ℤ q.w)
 
--- ---- spots of one height read alike
+-- ---- rational points of one height read alike
 same_le : (b c : Bool) (x y : ℤ) → ReadsLe b x y → ReadsLe c x y → b ≡ c
 same_le true true x y h k = refl
 same_le false false x y h k = refl
@@ -37,20 +38,20 @@ mul3 a b c = ring (a ∷ b ∷ c ∷ []) (var 0 ⊗ (var 1 ⊗ var 2)) (var 1 �
 swap_mul : (a b : ℤ) → a *ℤ b ≡ b *ℤ a
 swap_mul a b = ring (a ∷ b ∷ []) (var 0 ⊗ var 1) (var 1 ⊗ var 0) tt
 
-same_low : (q r : Spot) (c : Point) → r.y *ℤ q.w ≡ q.y *ℤ r.w → is_low q c ≡ is_low r c
+same_low : (q r : RationalPoint) (c : Point) → r.y *ℤ q.w ≡ q.y *ℤ r.w → is_low q c ≡ is_low r c
 same_low q r c h =
     same_le (is_low q c) (is_low r c) (q.w *ℤ (r.w *ℤ c.y)) (r.y *ℤ q.w)
     (ReadsLe_scaled (is_low q c) r.w (q.w *ℤ c.y) q.y (q.w *ℤ (r.w *ℤ c.y)) (r.y *ℤ q.w) (lt-le (pos 0) r.w r.positive) r.positive (mul3 r.w q.w c.y) (swap_mul r.w q.y ∙ sym h) (reads_le (q.w *ℤ c.y) q.y))
     (ReadsLe_scaled (is_low r c) q.w (r.w *ℤ c.y) r.y (q.w *ℤ (r.w *ℤ c.y)) (r.y *ℤ q.w) (lt-le (pos 0) q.w q.positive) q.positive refl (swap_mul q.w r.y) (reads_le (r.w *ℤ c.y) r.y))
 
--- ---- an edge passes strictly to the right (`true`), or may meet the spot (`false`)
+-- ---- an edge passes strictly to the right (`true`), or may meet the rational point (`false`)
 abbrev pub PassBy : Bool → Bool → Bool → ℤ → Type 0
 PassBy t true true u = ⊥
 PassBy t true false u = Below t (pos 0) u
 PassBy t false true u = Below t u (pos 0)
 PassBy t false false u = ⊥
 
-abbrev pub Passes : Bool → Spot → Seg → Type 0
+abbrev pub Passes : Bool → RationalPoint → Seg → Type 0
 Passes t p e = PassBy t (is_low p e.a) (is_low p e.b) (side e p)
 
 test_reads : (b : Bool) (x y : ℤ) → ReadsLt b x y → b ≡ true → x <ℤ y
@@ -85,7 +86,7 @@ pass_weaker true false u h = lt-le (pos 0) u h
 pass_weaker false true u h = lt-le u (pos 0) h
 pass_weaker false false u h = h
 
--- ---- more edges pass to the right of a spot farther left
+-- ---- more edges pass to the right of a rational point farther left
 side_gap : (qx qy qw rx ry rw ax ay bx by : ℤ) → ry *ℤ qw ≡ qy *ℤ rw → rw *ℤ ((bx -ℤ ax) *ℤ (qy -ℤ qw *ℤ ay) -ℤ (by -ℤ ay) *ℤ (qx -ℤ qw *ℤ ax)) -ℤ qw *ℤ ((bx -ℤ ax) *ℤ (ry -ℤ rw *ℤ ay) -ℤ (by -ℤ ay) *ℤ (rx -ℤ rw *ℤ ax)) ≡ (by -ℤ ay) *ℤ (rx *ℤ qw -ℤ qx *ℤ rw)
 side_gap qx qy qw rx ry rw ax ay bx by h =
     let Qx = var 0 in let Qy = var 1 in let Qw = var 2 in let Rx = var 3 in let Ry = var 4 in let Rw = var 5 in
@@ -126,7 +127,7 @@ down_farther t qw rw u v g m hq hr e hg hm h =
     more : (x y z z' : ℤ) → x -ℤ y ≡ z → z' ≡ neg_ℤ z → pos 0 ≤ℤ z' → x ≤ℤ y
     more x y z z' e f h = omega (arith, ints)
 
-farther : (t la lb : Bool) (e : Seg) (q r : Spot) → IsRight q r → ReadsLe la (q.w *ℤ e.a.y) q.y → ReadsLe lb (q.w *ℤ e.b.y) q.y → PassBy t la lb (side e r) → PassBy t la lb (side e q)
+farther : (t la lb : Bool) (e : Seg) (q r : RationalPoint) → IsRight q r → ReadsLe la (q.w *ℤ e.a.y) q.y → ReadsLe lb (q.w *ℤ e.b.y) q.y → PassBy t la lb (side e r) → PassBy t la lb (side e q)
 farther t true true e q r h ra rb p = p
 farther t true false e q r h ra rb p =
     up_farther t q.w r.w (side e q) (side e r) (e.b.y -ℤ e.a.y) (r.x *ℤ q.w -ℤ q.x *ℤ r.w) q.positive r.positive (side_gap q.x q.y q.w r.x r.y r.w e.a.x e.a.y e.b.x e.b.y h.level)
@@ -145,19 +146,19 @@ farther t false true e q r h ra rb p =
     turn a b h = omega (arith, ints)
 farther t false false e q r h ra rb p = p
 
-pub Passes-left : (t : Bool) (e : Seg) (q r : Spot) → IsRight q r → Passes t r e → Passes t q e
+pub Passes-left : (t : Bool) (e : Seg) (q r : RationalPoint) → IsRight q r → Passes t r e → Passes t q e
 Passes-left t e q r h p =
     farther t (is_low q e.a) (is_low q e.b) e q r h (reads_le (q.w *ℤ e.a.y) q.y) (reads_le (q.w *ℤ e.b.y) q.y)
     (subst (λ (z : Bool). PassBy t z (is_low q e.b) (side e r)) (sym (same_low q r e.a h.level))
     (subst (λ (z : Bool). PassBy t (is_low r e.a) z (side e r)) (sym (same_low q r e.b h.level)) p))
 
--- ---- the spot of an edge as high as q
--- a spot on the edge that the edge may meet
-pub record Hit (q : Spot) (e : Seg) : Type 0 where
-  pub spot : Spot
-  pub right : IsRight q spot
-  pub on : IsOn e spot
-  pub passes : Passes false spot e
+-- ---- the rational point of an edge as high as q
+-- a rational point on the edge that the edge may meet
+pub record Hit (q : RationalPoint) (e : Seg) : Type 0 where
+  pub rational_point : RationalPoint
+  pub right : IsRight q rational_point
+  pub on : IsOn e rational_point
+  pub passes : Passes false rational_point e
 
 -- r lies on the line of e
 on_line_at : (m i ax ay bx by : ℤ) → (bx -ℤ ax) *ℤ ((m -ℤ i) *ℤ ay +ℤ i *ℤ by -ℤ m *ℤ ay) -ℤ (by -ℤ ay) *ℤ ((m -ℤ i) *ℤ ax +ℤ i *ℤ bx -ℤ m *ℤ ax) ≡ pos 0
@@ -177,13 +178,13 @@ pass_zero true false u v h e = zero_le v e
 pass_zero false true u v h e = zero_ge v e
 pass_zero false false u v h e = h
 
-make_hit : (q : Spot) (e : Seg) → Passes true q e → (m i : ℤ) (h : pos 0 <ℤ m) → pos 0 ≤ℤ i → i ≤ℤ m → ((m -ℤ i) *ℤ e.a.y +ℤ i *ℤ e.b.y) *ℤ q.w ≡ q.y *ℤ m → (q.x *ℤ m) ≤ℤ (((m -ℤ i) *ℤ e.a.x +ℤ i *ℤ e.b.x) *ℤ q.w) → Hit q e
+make_hit : (q : RationalPoint) (e : Seg) → Passes true q e → (m i : ℤ) (h : pos 0 <ℤ m) → pos 0 ≤ℤ i → i ≤ℤ m → ((m -ℤ i) *ℤ e.a.y +ℤ i *ℤ e.b.y) *ℤ q.w ≡ q.y *ℤ m → (q.x *ℤ m) ≤ℤ (((m -ℤ i) *ℤ e.a.x +ℤ i *ℤ e.b.x) *ℤ q.w) → Hit q e
 make_hit q e p m i h h0 h1 level right =
-    let r = spot_at e m i h in
+    let r = rational_point_at e m i h in
     record {
-      spot = r;
+      rational_point = r;
       right = record { level = level; right = right };
-      on = spot_at_IsOn e m i h h0 h1;
+      on = rational_point_at_IsOn e m i h h0 h1;
       passes = pass_zero (is_low r e.a) (is_low r e.b) (side e q) (side e r)
           (subst (λ (z : Bool). PassBy true z (is_low r e.b) (side e q)) (same_low q r e.a level)
           (subst (λ (z : Bool). PassBy true (is_low q e.a) z (side e q)) (same_low q r e.b level) p))
@@ -229,7 +230,7 @@ part_down m x y z e h = omega (arith, ints)
 by_gap : (x y z : ℤ) → y -ℤ x ≡ z → pos 0 ≤ℤ z → x ≤ℤ y
 by_gap x y z e h = omega (arith, ints)
 
-hit_at : (la lb : Bool) (q : Spot) (e : Seg) → ReadsLe la (q.w *ℤ e.a.y) q.y → ReadsLe lb (q.w *ℤ e.b.y) q.y → PassBy true la lb (side e q) → Passes true q e → Hit q e
+hit_at : (la lb : Bool) (q : RationalPoint) (e : Seg) → ReadsLe la (q.w *ℤ e.a.y) q.y → ReadsLe lb (q.w *ℤ e.b.y) q.y → PassBy true la lb (side e q) → Passes true q e → Hit q e
 hit_at true true q e ra rb h p = absurd h
 hit_at true false q e ra rb h p =
     let w = q.w in let ay = e.a.y in let by = e.b.y in let m = w *ℤ (by -ℤ ay) in let i = q.y -ℤ w *ℤ ay in
@@ -246,7 +247,7 @@ hit_at false true q e ra rb h p =
     turn u h = omega (arith, ints)
 hit_at false false q e ra rb h p = absurd h
 
-hit : (q : Spot) (e : Seg) → passes q e ≡ true → Hit q e
+hit : (q : RationalPoint) (e : Seg) → passes q e ≡ true → Hit q e
 hit q e h =
     let p = pass_of (is_low q e.a) (is_low q e.b) (side e q) h in
     hit_at (is_low q e.a) (is_low q e.b) q e (reads_le (q.w *ℤ e.a.y) q.y) (reads_le (q.w *ℤ e.b.y) q.y) p p
@@ -277,7 +278,7 @@ on_level_down w a b y =
 close : (u : ℤ) → pos 0 ≤ℤ u → u ≤ℤ pos 0 → u ≡ pos 0
 close u h k = omega (arith, ints)
 
-meets_at : (la lb : Bool) (r : Spot) (e : Seg) → ReadsLe la (r.w *ℤ e.a.y) r.y → ReadsLe lb (r.w *ℤ e.b.y) r.y → PassBy false la lb (side e r) → PassBy true la lb (side e r) ⊎ IsOn e r
+meets_at : (la lb : Bool) (r : RationalPoint) (e : Seg) → ReadsLe la (r.w *ℤ e.a.y) r.y → ReadsLe lb (r.w *ℤ e.b.y) r.y → PassBy false la lb (side e r) → PassBy true la lb (side e r) ⊎ IsOn e r
 meets_at true true r e ra rb h = absurd h
 meets_at true false r e ra rb h = by_lt_z (pos 0) (side e r) inl (λ k.
     let w = r.w in let ay = e.a.y in let by = e.b.y in let m = w *ℤ (by -ℤ ay) in let i = r.y -ℤ w *ℤ ay in
@@ -303,73 +304,73 @@ meets_at false true r e ra rb h = by_lt_z (side e r) (pos 0) inl (λ k.
     }))
 meets_at false false r e ra rb h = absurd h
 
-meets : (r : Spot) (e : Seg) → Passes false r e → (passes r e ≡ true) ⊎ IsOn e r
+meets : (r : RationalPoint) (e : Seg) → Passes false r e → (passes r e ≡ true) ⊎ IsOn e r
 meets r e h = on_left (of_pass (is_low r e.a) (is_low r e.b) (side e r)) (meets_at (is_low r e.a) (is_low r e.b) r e (reads_le (r.w *ℤ e.a.y) r.y) (reads_le (r.w *ℤ e.b.y) r.y) h)
 
 -- ---- the first edge on the ray
 -- no edge lies strictly between q and r
-abbrev pub IsClear : Spot → Spot → List Seg → Type 0
+abbrev pub IsClear : RationalPoint → RationalPoint → List Seg → Type 0
 IsClear q r es = EachEdge (λ e. passes q e ≡ true → Passes false r e) es
 
-pub record First (q : Spot) (es : List Seg) : Type 0 where
-  pub spot : Spot
-  pub right : IsRight q spot
-  pub on : SomeEdge (λ e. IsOn e spot) es
-  pub clear : IsClear q spot es
+pub record First (q : RationalPoint) (es : List Seg) : Type 0 where
+  pub rational_point : RationalPoint
+  pub right : IsRight q rational_point
+  pub on : SomeEdge (λ e. IsOn e rational_point) es
+  pub clear : IsClear q rational_point es
 
-pub IsClear-left : (q r s : Spot) → IsRight r s → (es : List Seg) → IsClear q s es → IsClear q r es
+pub IsClear-left : (q r s : RationalPoint) → IsRight r s → (es : List Seg) → IsClear q s es → IsClear q r es
 IsClear-left q r s h [] c = tt
 IsClear-left q r s h (e ∷ es) c = (λ p. Passes-left false e r s h (c.0 p), IsClear-left q r s h es c.1)
 
-abbrev NonePass : Spot → List Seg → Type 0
+abbrev NonePass : RationalPoint → List Seg → Type 0
 NonePass q es = EachEdge (λ e. passes q e ≡ false) es
 
 not_both : (b : Bool) → b ≡ false → b ≡ true → ⊥
 not_both b h k = cc
 
-clear_of_none : (q r : Spot) (es : List Seg) → NonePass q es → IsClear q r es
+clear_of_none : (q r : RationalPoint) (es : List Seg) → NonePass q es → IsClear q r es
 clear_of_none q r [] h = tt
 clear_of_none q r (e ∷ es) h = (λ p. absurd (not_both (passes q e) h.0 p), clear_of_none q r es h.1)
 
--- two spots to the right of q, one of which is not to the right of the other
+-- two rational points to the right of q, one of which is not to the right of the other
 level_both : (qy qw ry rw sy sw : ℤ) → pos 0 <ℤ qw → ry *ℤ qw ≡ qy *ℤ rw → sy *ℤ qw ≡ qy *ℤ sw → sy *ℤ rw ≡ ry *ℤ sw
 level_both qy qw ry rw sy sw h e f =
     let Qy = var 0 in let Qw = var 1 in let Ry = var 2 in let Rw = var 3 in let Sy = var 4 in let Sw = var 5 in
     same_by_scale qw (sy *ℤ rw) (ry *ℤ sw) h
     (ring_by (qy ∷ qw ∷ ry ∷ rw ∷ sy ∷ sw ∷ []) (fact (minus Sw) (Ry ⊗ Qw) (Qy ⊗ Rw) ∷ fact Rw (Sy ⊗ Qw) (Qy ⊗ Sw) ∷ []) (e, (f, tt)) (Qw ⊗ (Sy ⊗ Rw)) (Qw ⊗ (Ry ⊗ Sw)) tt)
 
-pub either_right : (q r s : Spot) → IsRight q r → IsRight q s → IsRight r s ⊎ IsRight s r
+pub either_right : (q r s : RationalPoint) → IsRight q r → IsRight q s → IsRight r s ⊎ IsRight s r
 either_right q r s h k = by_lt_z (s.x *ℤ r.w) (r.x *ℤ s.w)
     (λ l. inr (record { level = level_both q.y q.w s.y s.w r.y r.w q.positive k.level h.level; right = lt-le (s.x *ℤ r.w) (r.x *ℤ s.w) l }))
     (λ l. inl (record { level = level_both q.y q.w r.y r.w s.y s.w q.positive h.level k.level; right = l }))
 
-nearer : (q : Spot) (e : Seg) (es : List Seg) (h : Hit q e) (f : First q es) → IsRight h.spot f.spot ⊎ IsRight f.spot h.spot → First q (e ∷ es)
-nearer q e es h f (inl o) = record { spot = h.spot; right = h.right; on = inl h.on; clear = (λ _. h.passes, IsClear-left q h.spot f.spot o es f.clear) }
-nearer q e es h f (inr o) = record { spot = f.spot; right = f.right; on = inr f.on; clear = (λ _. Passes-left false e f.spot h.spot o h.passes, f.clear) }
+nearer : (q : RationalPoint) (e : Seg) (es : List Seg) (h : Hit q e) (f : First q es) → IsRight h.rational_point f.rational_point ⊎ IsRight f.rational_point h.rational_point → First q (e ∷ es)
+nearer q e es h f (inl o) = record { rational_point = h.rational_point; right = h.right; on = inl h.on; clear = (λ _. h.passes, IsClear-left q h.rational_point f.rational_point o es f.clear) }
+nearer q e es h f (inr o) = record { rational_point = f.rational_point; right = f.right; on = inr f.on; clear = (λ _. Passes-left false e f.rational_point h.rational_point o h.passes, f.clear) }
 
-first_step : (q : Spot) (e : Seg) (es : List Seg) (b : Bool) → passes q e ≡ b → NonePass q es ⊎ First q es → NonePass q (e ∷ es) ⊎ First q (e ∷ es)
+first_step : (q : RationalPoint) (e : Seg) (es : List Seg) (b : Bool) → passes q e ≡ b → NonePass q es ⊎ First q es → NonePass q (e ∷ es) ⊎ First q (e ∷ es)
 first_step q e es false p (inl n) = inl (p, n)
-first_step q e es false p (inr f) = inr (record { spot = f.spot; right = f.right; on = inr f.on; clear = (λ k. absurd (not_both (passes q e) p k), f.clear) })
-first_step q e es true p (inl n) = let h = hit q e p in inr (record { spot = h.spot; right = h.right; on = inl h.on; clear = (λ _. h.passes, clear_of_none q h.spot es n) })
-first_step q e es true p (inr f) = let h = hit q e p in inr (nearer q e es h f (either_right q h.spot f.spot h.right f.right))
+first_step q e es false p (inr f) = inr (record { rational_point = f.rational_point; right = f.right; on = inr f.on; clear = (λ k. absurd (not_both (passes q e) p k), f.clear) })
+first_step q e es true p (inl n) = let h = hit q e p in inr (record { rational_point = h.rational_point; right = h.right; on = inl h.on; clear = (λ _. h.passes, clear_of_none q h.rational_point es n) })
+first_step q e es true p (inr f) = let h = hit q e p in inr (nearer q e es h f (either_right q h.rational_point f.rational_point h.right f.right))
 
-first_or_none : (q : Spot) (es : List Seg) → NonePass q es ⊎ First q es
+first_or_none : (q : RationalPoint) (es : List Seg) → NonePass q es ⊎ First q es
 first_or_none q [] = inl tt
 first_or_none q (e ∷ es) = first_step q e es (passes q e) refl (first_or_none q es)
 
-none-even : (q : Spot) (es : List Seg) → NonePass q es → is_odd q es ≡ false
+none-even : (q : RationalPoint) (es : List Seg) → NonePass q es → is_odd q es ≡ false
 none-even q [] h = refl
 none-even q (e ∷ es) h = ap (λ b. differ b (is_odd q es)) h.0 ∙ none-even q es h.1
 
-first_by : (q : Spot) (es : List Seg) → is_odd q es ≡ true → NonePass q es ⊎ First q es → First q es
+first_by : (q : RationalPoint) (es : List Seg) → is_odd q es ≡ true → NonePass q es ⊎ First q es → First q es
 first_by q es h (inl n) = absurd (not_both (is_odd q es) (none-even q es n) h)
 first_by q es h (inr f) = f
 
-pub first : (q : Spot) (es : List Seg) → is_odd q es ≡ true → First q es
+pub first : (q : RationalPoint) (es : List Seg) → is_odd q es ≡ true → First q es
 first q es h = first_by q es h (first_or_none q es)
 
 -- ---- along a clear way the parity stays, unless an edge holds its end
-clear_at : (q r : Spot) → IsRight q r → (e : Seg) → (passes q e ≡ true → Passes false r e) → (b c : Bool) → passes q e ≡ b → passes r e ≡ c → (passes q e ≡ passes r e) ⊎ IsOn e r
+clear_at : (q r : RationalPoint) → IsRight q r → (e : Seg) → (passes q e ≡ true → Passes false r e) → (b c : Bool) → passes q e ≡ b → passes r e ≡ c → (passes q e ≡ passes r e) ⊎ IsOn e r
 clear_at q r o e k true true p s = inl (p ∙ sym s)
 clear_at q r o e k false false p s = inl (p ∙ sym s)
 clear_at q r o e k true false p s = on_left (λ x. p ∙ sym x) (meets r e (k p))
@@ -378,6 +379,6 @@ clear_at q r o e k false true p s = inl (absurd (not_both (passes q e) p (of_pas
 both_differ : (a b c d : Bool) → a ≡ c → b ≡ d → differ a b ≡ differ c d
 both_differ a b c d e f = ap (λ z. differ z b) e ∙ ap (λ z. differ c z) f
 
-pub clear_parity : (q r : Spot) → IsRight q r → (es : List Seg) → IsClear q r es → (is_odd q es ≡ is_odd r es) ⊎ SomeEdge (λ e. IsOn e r) es
+pub clear_parity : (q r : RationalPoint) → IsRight q r → (es : List Seg) → IsClear q r es → (is_odd q es ≡ is_odd r es) ⊎ SomeEdge (λ e. IsOn e r) es
 clear_parity q r o [] c = inl refl
 clear_parity q r o (e ∷ es) c = both_steps (both_differ (passes q e) (is_odd q es) (passes r e) (is_odd r es)) (clear_at q r o e c.0 (passes q e) (passes r e) refl refl) (clear_parity q r o es c.1)

@@ -1,4 +1,4 @@
--- A polygon and a segment: where some spots of them are near, an edge is near, or the segment begins inside.
+-- A polygon and a segment: where some rational points of them are near, an edge is near, or the segment begins inside.
 use Rattle.std.proofs.Common.{◌≡◌, ℤ, pos, ◌+ℤ◌, ◌-ℤ◌, ◌*ℤ◌, ◌≤ℤ◌, ◌<ℤ◌, ◌⊎◌, ◌↔◌, Bool, true, false, List, [], ◌∷◌, refl, sym, ◌∙◌, inl, inr, arith}
 use Rattle.std.proofs.lemmas.Int.{ints}
 use Rattle.int_algebra.proofs.Ring.{var, num, ◌⊕◌, ◌⊖◌, ◌⊗◌, sq, fact, ring, ring_by}
@@ -6,9 +6,9 @@ use Rattle.int_algebra.proofs.Order.{product-pos, product-nonneg, square-nonneg,
 use Rattle.geo_seg.specs.declared.points.Point.{Point}
 use Rattle.geo_seg.specs.declared.points.Seg.{Seg}
 use Rattle.geo_seg.specs.Nearer.{square, squared_gap, squared_limit}
-use Rattle.geo_seg.specs.Points.{Spot, IsOn, spot_of}
-use Rattle.geo_poly.specs.Outlines.{IsApart, IsReached}
-use Rattle.geo_seg.proofs.Spots.{Below_along}
+use Rattle.geo_seg.specs.Points.{RationalPoint, IsOn, rational_point_of}
+use Rattle.geo_poly.specs.OutlineEdges.{IsApart, IsReached}
+use Rattle.geo_seg.proofs.RationalPoints.{Below_along}
 use Rattle.geo_seg.specs.Inside.{outline, SomeEdge, EachEdge}
 use Rattle.geo_seg.proofs.Parity.{is_odd}
 use Rattle.geo_seg.proofs.BoxLemmas.{start_on}
@@ -16,7 +16,7 @@ use Rattle.geo_poly.proofs.Insides.{Odd, IsIn, IsPolySegApart, IsPolySegReached}
 use Rattle.geo_poly.proofs.Between.{IsBetween}
 use Rattle.geo_poly.proofs.Ways.{Crossed, same_or_crossed, SomeEdge-weaker}
 
--- ---- a segment holds what lies between two of its spots
+-- ---- a segment holds what lies between two of its rational points
 on_between_at : (m i px pw n j qx qw k l rx rw a b : ℤ) → pos 0 <ℤ pw → pos 0 <ℤ qw → m *ℤ px ≡ pw *ℤ ((m -ℤ i) *ℤ a +ℤ i *ℤ b) → n *ℤ qx ≡ qw *ℤ ((n -ℤ j) *ℤ a +ℤ j *ℤ b)
     → k *ℤ (pw *ℤ qw *ℤ rx) ≡ rw *ℤ ((k -ℤ l) *ℤ (px *ℤ qw) +ℤ l *ℤ (qx *ℤ pw))
     → k *ℤ m *ℤ n *ℤ rx ≡ rw *ℤ ((k *ℤ m *ℤ n -ℤ ((k -ℤ l) *ℤ (i *ℤ n) +ℤ l *ℤ (j *ℤ m))) *ℤ a +ℤ ((k -ℤ l) *ℤ (i *ℤ n) +ℤ l *ℤ (j *ℤ m)) *ℤ b)
@@ -40,7 +40,7 @@ part_le m i n j k l m0 im n0 jn l0 lk =
     (product-nonneg (k -ℤ l) ((m -ℤ i) *ℤ n) (le_gap l k lk) (product-nonneg (m -ℤ i) n (le_gap i m im) n0))
     (product-nonneg l ((n -ℤ j) *ℤ m) l0 (product-nonneg (n -ℤ j) m (le_gap j n jn) m0)))
 
-pub IsOn-between : (s : Seg) (p q r : Spot) → IsOn s p → IsOn s q → IsBetween p q r → IsOn s r
+pub IsOn-between : (s : Seg) (p q r : RationalPoint) → IsOn s p → IsOn s q → IsBetween p q r → IsOn s r
 IsOn-between s p q r o u b =
     let m = o.whole in let i = o.part in let n = u.whole in let j = u.part in let k = b.whole in let l = b.part in
     let m0 = lt-le (pos 0) m o.positive in let n0 = lt-le (pos 0) n u.positive in
@@ -55,25 +55,25 @@ IsOn-between s p q r o u b =
     }
 
 -- ---- nearness: `Near true d` is nearer than d, `Near false d` within d
-abbrev pub Near : Bool → ℤ → Spot → Spot → Type 0
+abbrev pub Near : Bool → ℤ → RationalPoint → RationalPoint → Type 0
 Near t d p q = Below t (squared_gap p q) (squared_limit d p q)
 
-gap_sym : (p q : Spot) → squared_gap p q ≡ squared_gap q p
+gap_sym : (p q : RationalPoint) → squared_gap p q ≡ squared_gap q p
 gap_sym p q =
     let Px = var 0 in let Py = var 1 in let Pw = var 2 in let Qx = var 3 in let Qy = var 4 in let Qw = var 5 in
     ring (p.x ∷ p.y ∷ p.w ∷ q.x ∷ q.y ∷ q.w ∷ []) (sq (Px ⊗ Qw ⊖ Qx ⊗ Pw) ⊕ sq (Py ⊗ Qw ⊖ Qy ⊗ Pw)) (sq (Qx ⊗ Pw ⊖ Px ⊗ Qw) ⊕ sq (Qy ⊗ Pw ⊖ Py ⊗ Qw)) tt
 
-limit_sym : (d : ℤ) (p q : Spot) → squared_limit d p q ≡ squared_limit d q p
+limit_sym : (d : ℤ) (p q : RationalPoint) → squared_limit d p q ≡ squared_limit d q p
 limit_sym d p q = ring (d ∷ p.w ∷ q.w ∷ []) (sq (var 0 ⊗ var 1 ⊗ var 2)) (sq (var 0 ⊗ var 2 ⊗ var 1)) tt
 
-pub Near-sym : (t : Bool) (d : ℤ) (p q : Spot) → Near t d p q → Near t d q p
+pub Near-sym : (t : Bool) (d : ℤ) (p q : RationalPoint) → Near t d p q → Near t d q p
 Near-sym t d p q h = Below_along t (squared_gap p q) (squared_gap q p) (squared_limit d p q) (squared_limit d q p) (gap_sym p q) (limit_sym d p q) h
 
--- a spot is near itself
+-- a rational point is near itself
 abbrev pub Touches : Bool → ℤ → Type 0
-Touches t d = (p : Spot) → Near t d p p
+Touches t d = (p : RationalPoint) → Near t d p p
 
-gap_self : (p : Spot) → pos 0 ≡ squared_gap p p
+gap_self : (p : RationalPoint) → pos 0 ≡ squared_gap p p
 gap_self p = ring (p.x ∷ p.y ∷ p.w ∷ []) (num (pos 0)) (sq (var 0 ⊗ var 2 ⊖ var 0 ⊗ var 2) ⊕ sq (var 1 ⊗ var 2 ⊖ var 1 ⊗ var 2)) tt
 
 pub touches_within : (d : ℤ) → Touches false d
@@ -112,7 +112,7 @@ wider rw k l g hl hk hg =
     twice : (k l : ℤ) → pos 0 ≤ℤ l → l ≤ℤ k → pos 0 ≤ℤ (k -ℤ l +ℤ k)
     twice k l h g = omega (arith, ints)
 
-pub Near-between : (t : Bool) (d : ℤ) (p q r : Spot) → IsBetween p q r → Near t d p q → Near t d r q
+pub Near-between : (t : Bool) (d : ℤ) (p q r : RationalPoint) → IsBetween p q r → Near t d p q → Near t d r q
 Near-between t d p q r b h =
     let k = b.whole in let l = b.part in
     let g = squared_gap p q in let L = squared_limit d p q in
@@ -127,10 +127,10 @@ Near-between t d p q r b h =
     (le-Below t (square (r.w *ℤ (k -ℤ l)) *ℤ g) (square (r.w *ℤ k) *ℤ g) (square (r.w *ℤ k) *ℤ L) (wider r.w k l g b.starts b.ends g0)
     (scale_Below t (square (r.w *ℤ k)) g L (product-pos (r.w *ℤ k) (r.w *ℤ k) rk rk) h)))
 
--- ---- two segments, some of whose spots are near
+-- ---- two segments, some of whose rational points are near
 pub record Pair (t : Bool) (d : ℤ) (a b : Seg) : Type 0 where
-  pub from : Spot
-  pub to : Spot
+  pub from : RationalPoint
+  pub to : RationalPoint
   pub of_first : IsOn a from
   pub of_second : IsOn b to
   pub near : Near t d from to
@@ -138,23 +138,23 @@ pub record Pair (t : Bool) (d : ℤ) (a b : Seg) : Type 0 where
 pub Pair-sym : (t : Bool) (d : ℤ) (a b : Seg) → Pair t d a b → Pair t d b a
 Pair-sym t d a b p = record { from = p.to; to = p.from; of_first = p.of_second; of_second = p.of_first; near = Near-sym t d p.from p.to p.near }
 
--- an edge that meets the way between two spots of s meets s
-pub met_pair : (t : Bool) (d : ℤ) → Touches t d → (e s : Seg) (p q : Spot) → IsOn s p → IsOn s q → Crossed e p q → Pair t d e s
-met_pair t d z e s p q o u c = record { from = c.spot; to = c.spot; of_first = c.on; of_second = IsOn-between s p q c.spot o u c.between; near = z c.spot }
+-- an edge that meets the way between two rational points of s meets s
+pub met_pair : (t : Bool) (d : ℤ) → Touches t d → (e s : Seg) (p q : RationalPoint) → IsOn s p → IsOn s q → Crossed e p q → Pair t d e s
+met_pair t d z e s p q o u c = record { from = c.rational_point; to = c.rational_point; of_first = c.on; of_second = IsOn-between s p q c.rational_point o u c.between; near = z c.rational_point }
 
 -- an edge that meets the way from p to q is as near to q as p is
-pub near_pair : (t : Bool) (d : ℤ) (e s : Seg) (p q : Spot) → IsOn s q → Near t d p q → Crossed e p q → Pair t d e s
-near_pair t d e s p q u h c = record { from = c.spot; to = q; of_first = c.on; of_second = u; near = Near-between t d p q c.spot c.between h }
+pub near_pair : (t : Bool) (d : ℤ) (e s : Seg) (p q : RationalPoint) → IsOn s q → Near t d p q → Crossed e p q → Pair t d e s
+near_pair t d e s p q u h c = record { from = c.rational_point; to = q; of_first = c.on; of_second = u; near = Near-between t d p q c.rational_point c.between h }
 
-seg_inside : (t : Bool) (d : ℤ) → Touches t d → (cs : List Point) (s : Seg) (q : Spot) → IsOn s q → Odd cs q → (is_odd (spot_of s.a) (outline cs) ≡ is_odd q (outline cs)) ⊎ SomeEdge (λ e. Crossed e (spot_of s.a) q) (outline cs) → SomeEdge (λ e. Pair t d e s) (outline cs) ⊎ Odd cs (spot_of s.a)
+seg_inside : (t : Bool) (d : ℤ) → Touches t d → (cs : List Point) (s : Seg) (q : RationalPoint) → IsOn s q → Odd cs q → (is_odd (rational_point_of s.a) (outline cs) ≡ is_odd q (outline cs)) ⊎ SomeEdge (λ e. Crossed e (rational_point_of s.a) q) (outline cs) → SomeEdge (λ e. Pair t d e s) (outline cs) ⊎ Odd cs (rational_point_of s.a)
 seg_inside t d z cs s q u k (inl e) = inr (e ∙ k)
-seg_inside t d z cs s q u k (inr c) = inl (SomeEdge-weaker (λ e. met_pair t d z e s (spot_of s.a) q (start_on s) u) (outline cs) c)
+seg_inside t d z cs s q u k (inr c) = inl (SomeEdge-weaker (λ e. met_pair t d z e s (rational_point_of s.a) q (start_on s) u) (outline cs) c)
 
-seg_from_inside : (t : Bool) (d : ℤ) → Touches t d → (cs : List Point) (s : Seg) (p q : Spot) → Odd cs p → IsOn s q → Near t d p q → (is_odd p (outline cs) ≡ is_odd q (outline cs)) ⊎ SomeEdge (λ e. Crossed e p q) (outline cs) → SomeEdge (λ e. Pair t d e s) (outline cs) ⊎ Odd cs (spot_of s.a)
-seg_from_inside t d z cs s p q k u h (inl e) = seg_inside t d z cs s q u (sym e ∙ k) (same_or_crossed cs (spot_of s.a) q)
+seg_from_inside : (t : Bool) (d : ℤ) → Touches t d → (cs : List Point) (s : Seg) (p q : RationalPoint) → Odd cs p → IsOn s q → Near t d p q → (is_odd p (outline cs) ≡ is_odd q (outline cs)) ⊎ SomeEdge (λ e. Crossed e p q) (outline cs) → SomeEdge (λ e. Pair t d e s) (outline cs) ⊎ Odd cs (rational_point_of s.a)
+seg_from_inside t d z cs s p q k u h (inl e) = seg_inside t d z cs s q u (sym e ∙ k) (same_or_crossed cs (rational_point_of s.a) q)
 seg_from_inside t d z cs s p q k u h (inr c) = inl (SomeEdge-weaker (λ e. near_pair t d e s p q u h) (outline cs) c)
 
-pub seg_reach : (t : Bool) (d : ℤ) → Touches t d → (cs : List Point) (s : Seg) (p q : Spot) → IsIn cs p → IsOn s q → Near t d p q → SomeEdge (λ e. Pair t d e s) (outline cs) ⊎ Odd cs (spot_of s.a)
+pub seg_reach : (t : Bool) (d : ℤ) → Touches t d → (cs : List Point) (s : Seg) (p q : RationalPoint) → IsIn cs p → IsOn s q → Near t d p q → SomeEdge (λ e. Pair t d e s) (outline cs) ⊎ Odd cs (rational_point_of s.a)
 seg_reach t d z cs s p q (inl o) u h = inl (SomeEdge-weaker (λ e k. record { from = p; to = q; of_first = k; of_second = u; near = h }) (outline cs) o)
 seg_reach t d z cs s p q (inr k) u h = seg_from_inside t d z cs s p q k u h (same_or_crossed cs p q)
 
@@ -168,29 +168,29 @@ reached_pair d a b p = record { from = p.from; to = p.to; of_first = p.of_first;
 pub not_pair : (d : ℤ) (a b : Seg) → IsApart a b d → Pair true d a b → ⊥
 not_pair d a b h p = h.apart p.from p.to p.of_first p.of_second p.near
 
--- a spot of an edge, with what it takes
-pub record OnEdge (es : List Seg) (P : Spot → Type 0) : Type 0 where
-  pub spot : Spot
-  pub on : SomeEdge (λ e. IsOn e spot) es
-  pub holds : P spot
+-- a rational point of an edge, with what it takes
+pub record OnEdge (es : List Seg) (P : RationalPoint → Type 0) : Type 0 where
+  pub rational_point : RationalPoint
+  pub on : SomeEdge (λ e. IsOn e rational_point) es
+  pub holds : P rational_point
 
-some_spot : (t : Bool) (d : ℤ) (s : Seg) (es : List Seg) → SomeEdge (λ e. Pair t d e s) es → OnEdge es (λ p. (q : Spot) × IsOn s q × Near t d p q)
-some_spot t d s [] h = absurd h
-some_spot t d s (e ∷ es) (inl p) = record { spot = p.from; on = inl p.of_first; holds = (p.to, p.of_second, p.near) }
-some_spot t d s (e ∷ es) (inr h) = let r = some_spot t d s es h in record { spot = r.spot; on = inr r.on; holds = r.holds }
+some_rational_point : (t : Bool) (d : ℤ) (s : Seg) (es : List Seg) → SomeEdge (λ e. Pair t d e s) es → OnEdge es (λ p. (q : RationalPoint) × IsOn s q × Near t d p q)
+some_rational_point t d s [] h = absurd h
+some_rational_point t d s (e ∷ es) (inl p) = record { rational_point = p.from; on = inl p.of_first; holds = (p.to, p.of_second, p.near) }
+some_rational_point t d s (e ∷ es) (inr h) = let r = some_rational_point t d s es h in record { rational_point = r.rational_point; on = inr r.on; holds = r.holds }
 
-seg_reached_by : (d : ℤ) (cs : List Point) (s : Seg) → SomeEdge (λ e. IsReached e s d) (outline cs) ⊎ Odd cs (spot_of s.a) → IsPolySegReached cs s d
+seg_reached_by : (d : ℤ) (cs : List Point) (s : Seg) → SomeEdge (λ e. IsReached e s d) (outline cs) ⊎ Odd cs (rational_point_of s.a) → IsPolySegReached cs s d
 seg_reached_by d cs s (inl h) =
-    let r = some_spot false d s (outline cs) (SomeEdge-weaker (λ e. reached_pair d e s) (outline cs) h) in
-    record { from = r.spot; to = r.holds.0; of_first = inl r.on; of_second = r.holds.1; within = r.holds.2 }
-seg_reached_by d cs s (inr k) = record { from = spot_of s.a; to = spot_of s.a; of_first = inr k; of_second = start_on s; within = touches_within d (spot_of s.a) }
+    let r = some_rational_point false d s (outline cs) (SomeEdge-weaker (λ e. reached_pair d e s) (outline cs) h) in
+    record { from = r.rational_point; to = r.holds.0; of_first = inl r.on; of_second = r.holds.1; within = r.holds.2 }
+seg_reached_by d cs s (inr k) = record { from = rational_point_of s.a; to = rational_point_of s.a; of_first = inr k; of_second = start_on s; within = touches_within d (rational_point_of s.a) }
 
-either_reached : (d : ℤ) (cs : List Point) (s : Seg) → SomeEdge (λ e. Pair false d e s) (outline cs) ⊎ Odd cs (spot_of s.a) → SomeEdge (λ e. IsReached e s d) (outline cs) ⊎ Odd cs (spot_of s.a)
+either_reached : (d : ℤ) (cs : List Point) (s : Seg) → SomeEdge (λ e. Pair false d e s) (outline cs) ⊎ Odd cs (rational_point_of s.a) → SomeEdge (λ e. IsReached e s d) (outline cs) ⊎ Odd cs (rational_point_of s.a)
 either_reached d cs s (inl h) = inl (SomeEdge-weaker (λ e. pair_reached d e s) (outline cs) h)
 either_reached d cs s (inr k) = inr k
 
 -- within d: an edge is, or the segment begins inside
-pub seg_reached_where : (d : ℤ) (cs : List Point) (s : Seg) → IsPolySegReached cs s d ↔ (SomeEdge (λ e. IsReached e s d) (outline cs) ⊎ Odd cs (spot_of s.a))
+pub seg_reached_where : (d : ℤ) (cs : List Point) (s : Seg) → IsPolySegReached cs s d ↔ (SomeEdge (λ e. IsReached e s d) (outline cs) ⊎ Odd cs (rational_point_of s.a))
 seg_reached_where d cs s = (λ h. either_reached d cs s (seg_reach false d (touches_within d) cs s h.from h.to h.of_first h.of_second h.within), seg_reached_by d cs s)
 
 pub none_of : {P Q : Seg → Type 0} → ((e : Seg) → P e → Q e → ⊥) → (es : List Seg) → EachEdge P es → SomeEdge Q es → ⊥
@@ -198,7 +198,7 @@ none_of f [] h x = x
 none_of f (e ∷ es) h (inl x) = f e h.0 x
 none_of f (e ∷ es) h (inr x) = none_of f es h.1 x
 
-no_seg_reach : (d : ℤ) (cs : List Point) (s : Seg) → EachEdge (λ e. IsApart e s d) (outline cs) → ¬ (Odd cs (spot_of s.a)) → SomeEdge (λ e. Pair true d e s) (outline cs) ⊎ Odd cs (spot_of s.a) → ⊥
+no_seg_reach : (d : ℤ) (cs : List Point) (s : Seg) → EachEdge (λ e. IsApart e s d) (outline cs) → ¬ (Odd cs (rational_point_of s.a)) → SomeEdge (λ e. Pair true d e s) (outline cs) ⊎ Odd cs (rational_point_of s.a) → ⊥
 no_seg_reach d cs s h n (inl x) = none_of (λ e. not_pair d e s) (outline cs) h x
 no_seg_reach d cs s h n (inr k) = n k
 
@@ -207,11 +207,11 @@ each_by es [] f g = tt
 each_by es (e ∷ fs) f g = (f e (λ Q x. g Q (inl x)), each_by es fs f (λ Q x. g Q (inr x)))
 
 -- apart at d: each edge is, and the segment does not begin inside
-pub seg_apart_where : (d : ℤ) → pos 0 <ℤ d → (cs : List Point) (s : Seg) → IsPolySegApart cs s d ↔ (EachEdge (λ e. IsApart e s d) (outline cs) × (¬ (Odd cs (spot_of s.a))))
+pub seg_apart_where : (d : ℤ) → pos 0 <ℤ d → (cs : List Point) (s : Seg) → IsPolySegApart cs s d ↔ (EachEdge (λ e. IsApart e s d) (outline cs) × (¬ (Odd cs (rational_point_of s.a))))
 seg_apart_where d hd cs s = (
   λ h. (
     each_by (outline cs) (outline cs) (λ e member. record { apart = λ p q o u n. h.apart p q (inl (member (λ x. IsOn x p) o)) u n }) (λ Q x. x),
-    λ k. h.apart (spot_of s.a) (spot_of s.a) (inr k) (start_on s) (touches_nearer d hd (spot_of s.a)),
+    λ k. h.apart (rational_point_of s.a) (rational_point_of s.a) (inr k) (start_on s) (touches_nearer d hd (rational_point_of s.a)),
   ),
   λ h. record { apart = λ p q o u n. no_seg_reach d cs s h.0 h.1 (seg_reach true d (touches_nearer d hd) cs s p q o u n) },
 )

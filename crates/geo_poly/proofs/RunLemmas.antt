@@ -8,21 +8,21 @@ use mathlib.Core.Bool.{beq}
 use Rattle.geo_seg.specs.declared.points.Point.{Point}
 use Rattle.geo_seg.specs.declared.points.Seg.{Seg}
 use Rattle.geo_seg.specs.declared.boxes.Bounds.{Bounds}
-use Rattle.geo_seg.specs.Points.{Spot, IsOn, spot_of}
+use Rattle.geo_seg.specs.Points.{RationalPoint, IsOn, rational_point_of}
 use Rattle.geo_seg.specs.Boxes.{IsInBox, AreClear, IsLeastBox, FitsWithin}
 use Rattle.geo_seg.specs.Nearer.{IsUpTo}
 use Rattle.geo_seg.specs.Inside.{path, last_of, outline, EachEdge, SomeEdge, is_low, passes, IsInside}
-use Rattle.geo_seg.specs.Runs.{AreEndsHeld, IsRunBox}
+use Rattle.geo_seg.specs.RunBoxes.{AreEndsHeld, IsRunBox}
 use Rattle.geo_seg.proofs.Parity.{differ, is_odd, is_odd_of, odd_of_is_odd, some_passes}
 use Rattle.geo_seg.proofs.Enclosed.{path_parity, edge_with, how_passes, in_between, Between}
 use Rattle.geo_seg.proofs.Choices.{fails_by, either_way}
 use Rattle.geo_seg.proofs.BoxLemmas.{held_of_in_box, start_on, end_on}
 use Rattle.geo_seg.proofs.Passed.{passed, left_in_range, right_in_range, top_in_range, bottom_in_range}
 use Rattle.geo_seg.proofs.RunBoxes.{last_is, path_take, path_drop, path_length}
-use Rattle.geo_poly.specs.Outlines.{IsApart, IsReached, EachApart, SomeReached}
+use Rattle.geo_poly.specs.OutlineEdges.{IsApart, IsReached, EachApart, SomeReached}
 use Rattle.geo_poly.specs.declared.runs.Part.{Part}
-use Rattle.geo_poly.specs.Runs.{between, LiesClear, PassOdd, IsMissed, IsBeside}
-use Rattle.geo_poly.specs.Parts.{edges_of}
+use Rattle.geo_poly.specs.EdgeRuns.{between, LiesClear, PassOdd, IsMissed, IsBeside}
+use Rattle.geo_poly.specs.OutlineParts.{edges_of}
 use Rattle.geo_seg.proofs.Distances.{apart_not_within}
 use Rattle.geo_poly.proofs.Covers.{Covers, covers_ends, covers_outline, edge_clear, both_clear, none_both_clear}
 use Rattle.geo_poly.proofs.Outline.{low_at, low_kept}
@@ -140,10 +140,10 @@ pub run_covers : (b : Bounds) (es : List Seg) → IsRunBox es b → EachEdge (Co
 run_covers b es h = each_weaker (covers_ends b) es h.holds
 
 -- ---- parities
-pub odd_by : (p : Spot) (es : List Seg) (b : Bool) → is_odd p es ≡ b → (IsTrue b ↔ PassOdd p es)
+pub odd_by : (p : RationalPoint) (es : List Seg) (b : Bool) → is_odd p es ≡ b → (IsTrue b ↔ PassOdd p es)
 odd_by p es b e = (λ t. odd_of_is_odd p es (e ∙ t), λ h. sym e ∙ is_odd_of p es h)
 
-pub odd_is : (p : Spot) (es : List Seg) (b : Bool) → (IsTrue b ↔ PassOdd p es) → is_odd p es ≡ b
+pub odd_is : (p : RationalPoint) (es : List Seg) (b : Bool) → (IsTrue b ↔ PassOdd p es) → is_odd p es ≡ b
 odd_is p es true f = is_odd_of p es (f.0 refl)
 odd_is p es false f = by (is_odd p es) refl
   where
@@ -163,19 +163,19 @@ differ_assoc true true z = not_not z
 differ_assoc true false z = refl
 differ_assoc false y z = refl
 
-odd_append : (p : Spot) (X Y : List Seg) → is_odd p (X ++ Y) ≡ differ (is_odd p X) (is_odd p Y)
+odd_append : (p : RationalPoint) (X Y : List Seg) → is_odd p (X ++ Y) ≡ differ (is_odd p X) (is_odd p Y)
 odd_append p [] Y = refl
 odd_append p (e ∷ X) Y = ap (differ (passes p e)) (odd_append p X Y) ∙ differ_assoc (passes p e) (is_odd p X) (is_odd p Y)
 
-pub odd_on : (p : Spot) (low mid high : ℕ) (es : List Seg) → low ≤ mid → mid ≤ high → is_odd p (between low high es) ≡ differ (is_odd p (between low mid es)) (is_odd p (between mid high es))
+pub odd_on : (p : RationalPoint) (low mid high : ℕ) (es : List Seg) → low ≤ mid → mid ≤ high → is_odd p (between low high es) ≡ differ (is_odd p (between low mid es)) (is_odd p (between mid high es))
 odd_on p low mid high es h k = ap (is_odd p) (between_cut low mid high es h k) ∙ odd_append p (between low mid es) (between mid high es)
 
 -- a box that the ray misses has no edge that passes
-pub missed_even : (b : Bounds) (p : Point) (es : List Seg) → IsMissed b p → EachEdge (AreEndsHeld b) es → is_odd (spot_of p) es ≡ true → ⊥
-unfolding spot_of
-missed_even b p es m h e = clash m (edge_with (λ x i j. in_between b (spot_of p) x i (how_passes (spot_of p) x j)) es h (some_passes (spot_of p) es e))
+pub missed_even : (b : Bounds) (p : Point) (es : List Seg) → IsMissed b p → EachEdge (AreEndsHeld b) es → is_odd (rational_point_of p) es ≡ true → ⊥
+unfolding rational_point_of
+missed_even b p es m h e = clash m (edge_with (λ x i j. in_between b (rational_point_of p) x i (how_passes (rational_point_of p) x j)) es h (some_passes (rational_point_of p) es e))
   where
-    clash : IsMissed b p → Between b (spot_of p) → ⊥
+    clash : IsMissed b p → Between b (rational_point_of p) → ⊥
     clash (inl m) k = above b.top p.y m k.top
       where
         above : (t y : ℤ) → y <ℤ t → (pos 1 *ℤ t) ≤ℤ y → ⊥
@@ -190,8 +190,8 @@ missed_even b p es m h e = clash m (edge_with (λ x i j. in_between b (spot_of p
         below t y m k = omega (arith, ints)
 
 -- a box beside one that holds p is missed by the ray
-pub missed_beside : (b near : Bounds) (d : ℤ) (p : Point) → pos 0 <ℤ d → IsInBox near (spot_of p) → IsBeside b near d → IsMissed b p
-unfolding spot_of
+pub missed_beside : (b near : Bounds) (d : ℤ) (p : Point) → pos 0 <ℤ d → IsInBox near (rational_point_of p) → IsBeside b near d → IsMissed b p
+unfolding rational_point_of
 missed_beside b near d p hd i (inl h) = inr (inr (after b.right near.left d p.x hd i.left h))
   where
     after : (u v d x : ℤ) → pos 0 <ℤ d → (pos 1 *ℤ v) ≤ℤ x → (u +ℤ d) ≤ℤ v → u <ℤ x
@@ -206,8 +206,8 @@ missed_beside b near d p hd i (inr (inr h)) = inl (ahead near.bottom b.top d p.y
     ahead u v d x hd i h = omega (arith, ints)
 
 -- and one ahead lies to its right
-pub right_ahead : (b near : Bounds) (d : ℤ) (p : Point) → pos 0 <ℤ d → IsInBox near (spot_of p) → (near.right +ℤ d) ≤ℤ b.left → p.x <ℤ b.left
-unfolding spot_of
+pub right_ahead : (b near : Bounds) (d : ℤ) (p : Point) → pos 0 <ℤ d → IsInBox near (rational_point_of p) → (near.right +ℤ d) ≤ℤ b.left → p.x <ℤ b.left
+unfolding rational_point_of
 right_ahead b near d p hd i h = ahead near.right b.left d p.x hd i.right h
   where
     ahead : (u v d x : ℤ) → pos 0 <ℤ d → x ≤ℤ (pos 1 *ℤ u) → (u +ℤ d) ≤ℤ v → x <ℤ v
@@ -218,12 +218,12 @@ clear_beside b near d (inl h) = inl (inl h)
 clear_beside b near d (inr h) = inr h
 
 -- the two ends of a path to the right of p
-pub ends_parity : (b : Bounds) (p a x : Point) (part : List Point) → p.x <ℤ b.left → 0 < length part → x ≡ get_or part (length part - 1) x → EachEdge (AreEndsHeld b) (path a part) → is_odd (spot_of p) (path a part) ≡ differ (is_low (spot_of p) a) (is_low (spot_of p) x)
-unfolding spot_of
+pub ends_parity : (b : Bounds) (p a x : Point) (part : List Point) → p.x <ℤ b.left → 0 < length part → x ≡ get_or part (length part - 1) x → EachEdge (AreEndsHeld b) (path a part) → is_odd (rational_point_of p) (path a part) ≡ differ (is_low (rational_point_of p) a) (is_low (rational_point_of p) x)
+unfolding rational_point_of
 ends_parity b p a x part k l e h =
-    path_parity b (spot_of p) a part (beyond k) h ∙ ap (λ z. differ (is_low (spot_of p) a) (is_low (spot_of p) z)) (sym (last_is a x part l e))
+    path_parity b (rational_point_of p) a part (beyond k) h ∙ ap (λ z. differ (is_low (rational_point_of p) a) (is_low (rational_point_of p) z)) (sym (last_is a x part l e))
   where
-    beyond : p.x <ℤ b.left → (spot_of p).x <ℤ ((spot_of p).w *ℤ b.left)
+    beyond : p.x <ℤ b.left → (rational_point_of p).x <ℤ ((rational_point_of p).w *ℤ b.left)
     beyond k = omega (arith, ints)
 
 -- ---- as the code has them
@@ -294,14 +294,14 @@ not_and_known false e q = (λ t. (fails_by false e refl, q), λ x. refl)
 pub or_known : {P Q : Type 0} (b : Bool) → (IsTrue b ↔ P) → ¬ Q → (IsTrue b ↔ (P ⊎ Q))
 or_known b e n = (λ t. inl (e.0 t), either_way e.1 (λ q. absurd (n q)))
 
-pub missed_odd : (b : Bounds) (p : Point) (es : List Seg) → IsMissed b p → IsRunBox es b → (IsTrue false ↔ PassOdd (spot_of p) es)
-missed_odd b p es m h = odd_by (spot_of p) es false (not_true (is_odd (spot_of p) es) (missed_even b p es m h.holds))
+pub missed_odd : (b : Bounds) (p : Point) (es : List Seg) → IsMissed b p → IsRunBox es b → (IsTrue false ↔ PassOdd (rational_point_of p) es)
+missed_odd b p es m h = odd_by (rational_point_of p) es false (not_true (is_odd (rational_point_of p) es) (missed_even b p es m h.holds))
 
-pub ends_code : (b : Bounds) (p a x : Point) (part : List Point) (es : List Seg) → es ≡ path a part → p.x <ℤ b.left → 0 < length part → x ≡ get_or part (length part - 1) x → IsRunBox es b → (IsTrue (not (beq (le_z (passed a.y) (passed p.y)) (le_z (passed x.y) (passed p.y)))) ↔ PassOdd (spot_of p) es)
+pub ends_code : (b : Bounds) (p a x : Point) (part : List Point) (es : List Seg) → es ≡ path a part → p.x <ℤ b.left → 0 < length part → x ≡ get_or part (length part - 1) x → IsRunBox es b → (IsTrue (not (beq (le_z (passed a.y) (passed p.y)) (le_z (passed x.y) (passed p.y)))) ↔ PassOdd (rational_point_of p) es)
 ends_code b p a x part es q k l e h =
-    odd_by (spot_of p) es _
-    (ap (is_odd (spot_of p)) q ∙ ends_parity b p a x part k l e (subst (EachEdge (AreEndsHeld b)) q h.holds)
-    ∙ ap (λ z. differ z (is_low (spot_of p) x)) (low_at p a ∙ low_kept a.y p.y _ a.y_in_range p.y_in_range refl)
+    odd_by (rational_point_of p) es _
+    (ap (is_odd (rational_point_of p)) q ∙ ends_parity b p a x part k l e (subst (EachEdge (AreEndsHeld b)) q h.holds)
+    ∙ ap (λ z. differ z (is_low (rational_point_of p) x)) (low_at p a ∙ low_kept a.y p.y _ a.y_in_range p.y_in_range refl)
     ∙ ap (λ z. differ (le_z (passed a.y) (passed p.y)) z) (low_at p x ∙ low_kept x.y p.y _ x.y_in_range p.y_in_range refl)
     ∙ differ_beq (le_z (passed a.y) (passed p.y)) (le_z (passed x.y) (passed p.y)))
 
@@ -323,7 +323,7 @@ shorter_run n size es b h r =
     }
 
 ends_of_covered : (b : Bounds) (e : Seg) → Covers b e → AreEndsHeld b e
-ends_of_covered b e h = (held_of_in_box b e.a (h (spot_of e.a) (start_on e)), held_of_in_box b e.b (h (spot_of e.b) (end_on e)))
+ends_of_covered b e h = (held_of_in_box b e.a (h (rational_point_of e.a) (start_on e)), held_of_in_box b e.b (h (rational_point_of e.b) (end_on e)))
 
 pub outline_box : (b : Bounds) (cs : List Point) → IsLeastBox (IsInside cs) b → FitsWithin (pos 1000000000) b → IsRunBox (outline cs) b
 outline_box b cs h f = record { holds = each_weaker (ends_of_covered b) (outline cs) (covers_outline b cs h); fits = f }

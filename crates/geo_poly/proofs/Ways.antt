@@ -1,4 +1,4 @@
--- Where no edge meets the way from one spot to another, an odd number of edges passes to the right of both or of neither.
+-- Where no edge meets the way from one rational point to another, an odd number of edges passes to the right of both or of neither.
 use Rattle.std.proofs.Common.{◌≡◌, ℤ, pos, ◌+ℤ◌, ◌-ℤ◌, ◌*ℤ◌, neg_ℤ, ◌≤ℤ◌, ◌<ℤ◌, ◌⊎◌, Bool, true, false, List, [], ◌∷◌, refl, sym, ap, ◌∙◌, inl, inr, arith}
 use Rattle.std.proofs.lemmas.Int.{ints, by_lt_z}
 use Rattle.std.specs.Int.Signed.{lt_z}
@@ -6,8 +6,8 @@ use Rattle.int_algebra.proofs.Ring.{Expr, var, num, ◌⊕◌, ◌⊖◌, ◌⊗
 use Rattle.int_algebra.proofs.Order.{product-pos, scale_le, scale_lt}
 use Rattle.geo_seg.specs.declared.points.Point.{Point}
 use Rattle.geo_seg.specs.declared.points.Seg.{Seg}
-use Rattle.geo_seg.specs.Points.{Spot, IsOn}
-use Rattle.geo_seg.proofs.PointReach.{spot_at, spot_at_IsOn}
+use Rattle.geo_seg.specs.Points.{RationalPoint, IsOn}
+use Rattle.geo_seg.proofs.PointReach.{rational_point_at, rational_point_at_IsOn}
 use Rattle.geo_seg.specs.Inside.{edge, path, last_of, outline, SomeEdge, is_low, side, passing, passes}
 use Rattle.geo_seg.proofs.Parity.{differ, is_odd}
 use Rattle.geo_poly.proofs.Sides.{ReadsLe, ReadsLt, reads_le, reads_lt, Lines, Cut, falls, climbs, marking, core, on_both}
@@ -118,28 +118,28 @@ passing_scaled false true c u v h e = same_lt (lt_z u (pos 0)) (lt_z v (pos 0)) 
 passing_scaled false false c u v h e = refl
 
 -- ---- one edge
-pub record Crossed (e : Seg) (p q : Spot) : Type 0 where
-  pub spot : Spot
-  pub on : IsOn e spot
-  pub between : IsBetween p q spot
+pub record Crossed (e : Seg) (p q : RationalPoint) : Type 0 where
+  pub rational_point : RationalPoint
+  pub on : IsOn e rational_point
+  pub between : IsBetween p q rational_point
 
-Crossed-back : (e : Seg) (p q : Spot) → Crossed e p q → Crossed e q p
-Crossed-back e p q c = record { spot = c.spot; on = c.on; between = IsBetween-back p q c.spot c.between }
+Crossed-back : (e : Seg) (p q : RationalPoint) → Crossed e p q → Crossed e q p
+Crossed-back e p q c = record { rational_point = c.rational_point; on = c.on; between = IsBetween-back p q c.rational_point c.between }
 
 -- p and q over one denominator
-abbrev over : Spot → Spot → ℤ
+abbrev over : RationalPoint → RationalPoint → ℤ
 over p q = p.w *ℤ q.w
 
-abbrev sideP : Seg → Spot → Spot → ℤ
+abbrev sideP : Seg → RationalPoint → RationalPoint → ℤ
 sideP e p q = side_of (over p q *ℤ e.a.x) (over p q *ℤ e.a.y) (over p q *ℤ e.b.x) (over p q *ℤ e.b.y) (p.x *ℤ q.w) (p.y *ℤ q.w)
 
-abbrev sideQ : Seg → Spot → Spot → ℤ
+abbrev sideQ : Seg → RationalPoint → RationalPoint → ℤ
 sideQ e p q = side_of (over p q *ℤ e.a.x) (over p q *ℤ e.a.y) (over p q *ℤ e.b.x) (over p q *ℤ e.b.y) (q.x *ℤ p.w) (q.y *ℤ p.w)
 
-abbrev sideC : Point → Spot → Spot → ℤ
+abbrev sideC : Point → RationalPoint → RationalPoint → ℤ
 sideC c p q = side_of (p.x *ℤ q.w) (p.y *ℤ q.w) (q.x *ℤ p.w) (q.y *ℤ p.w) (over p q *ℤ c.x) (over p q *ℤ c.y)
 
-abbrev mark : Spot → Spot → Point → Bool
+abbrev mark : RationalPoint → RationalPoint → Point → Bool
 mark p q c = marking (is_low p c) (is_low q c) (sideC c p q)
 
 side_p : (px py pw qw ax ay bx by : ℤ) → pw *ℤ qw *ℤ qw *ℤ ((bx -ℤ ax) *ℤ (py -ℤ pw *ℤ ay) -ℤ (by -ℤ ay) *ℤ (px -ℤ pw *ℤ ax)) ≡ side_of (pw *ℤ qw *ℤ ax) (pw *ℤ qw *ℤ ay) (pw *ℤ qw *ℤ bx) (pw *ℤ qw *ℤ by) (px *ℤ qw) (py *ℤ qw)
@@ -163,34 +163,34 @@ low_q pw qw ay = ring (pw ∷ qw ∷ ay ∷ []) (var 0 ⊗ (var 1 ⊗ var 2)) (v
 swap_mul : (a b : ℤ) → a *ℤ b ≡ b *ℤ a
 swap_mul a b = ring (a ∷ b ∷ []) (var 0 ⊗ var 1) (var 1 ⊗ var 0) tt
 
-low_reads_p : (p q : Spot) (c : Point) → ReadsLe (is_low p c) (over p q *ℤ c.y) (p.y *ℤ q.w)
+low_reads_p : (p q : RationalPoint) (c : Point) → ReadsLe (is_low p c) (over p q *ℤ c.y) (p.y *ℤ q.w)
 low_reads_p p q c = ReadsLe_scaled (is_low p c) q.w (p.w *ℤ c.y) p.y (over p q *ℤ c.y) (p.y *ℤ q.w) (weak q.w q.positive) q.positive (low_p p.w q.w c.y) (swap_mul q.w p.y) (reads_le (p.w *ℤ c.y) p.y)
 
-low_reads_q : (p q : Spot) (c : Point) → ReadsLe (is_low q c) (over p q *ℤ c.y) (q.y *ℤ p.w)
+low_reads_q : (p q : RationalPoint) (c : Point) → ReadsLe (is_low q c) (over p q *ℤ c.y) (q.y *ℤ p.w)
 low_reads_q p q c = ReadsLe_scaled (is_low q c) p.w (q.w *ℤ c.y) q.y (over p q *ℤ c.y) (q.y *ℤ p.w) (weak p.w p.positive) p.positive (low_q p.w q.w c.y) (swap_mul p.w q.y) (reads_le (q.w *ℤ c.y) q.y)
 
--- the spot where they meet, part / whole of the way along the edge
-spot_between_at : (w m i j a b p q : ℤ) → (m -ℤ i) *ℤ (w *ℤ a) +ℤ i *ℤ (w *ℤ b) ≡ (m -ℤ j) *ℤ p +ℤ j *ℤ q → m *ℤ (w *ℤ ((m -ℤ i) *ℤ a +ℤ i *ℤ b)) ≡ m *ℤ ((m -ℤ j) *ℤ p +ℤ j *ℤ q)
-spot_between_at w m i j a b p q h =
+-- the rational point where they meet, part / whole of the way along the edge
+rational_point_between_at : (w m i j a b p q : ℤ) → (m -ℤ i) *ℤ (w *ℤ a) +ℤ i *ℤ (w *ℤ b) ≡ (m -ℤ j) *ℤ p +ℤ j *ℤ q → m *ℤ (w *ℤ ((m -ℤ i) *ℤ a +ℤ i *ℤ b)) ≡ m *ℤ ((m -ℤ j) *ℤ p +ℤ j *ℤ q)
+rational_point_between_at w m i j a b p q h =
     let W = var 0 in let M = var 1 in let I = var 2 in let J = var 3 in let A = var 4 in let B = var 5 in let P = var 6 in let Q = var 7 in
     ring_by (w ∷ m ∷ i ∷ j ∷ a ∷ b ∷ p ∷ q ∷ []) (fact M ((M ⊖ I) ⊗ (W ⊗ A) ⊕ I ⊗ (W ⊗ B)) ((M ⊖ J) ⊗ P ⊕ J ⊗ Q) ∷ []) (h, tt)
     (M ⊗ (W ⊗ ((M ⊖ I) ⊗ A ⊕ I ⊗ B))) (M ⊗ ((M ⊖ J) ⊗ P ⊕ J ⊗ Q)) tt
 
-crossed_by : (e : Seg) (p q : Spot) (m i j : ℤ) → pos 0 <ℤ m → pos 0 ≤ℤ i → i ≤ℤ m → pos 0 ≤ℤ j → j ≤ℤ m
+crossed_by : (e : Seg) (p q : RationalPoint) (m i j : ℤ) → pos 0 <ℤ m → pos 0 ≤ℤ i → i ≤ℤ m → pos 0 ≤ℤ j → j ≤ℤ m
     → (m -ℤ i) *ℤ (over p q *ℤ e.a.x) +ℤ i *ℤ (over p q *ℤ e.b.x) ≡ (m -ℤ j) *ℤ (p.x *ℤ q.w) +ℤ j *ℤ (q.x *ℤ p.w)
     → (m -ℤ i) *ℤ (over p q *ℤ e.a.y) +ℤ i *ℤ (over p q *ℤ e.b.y) ≡ (m -ℤ j) *ℤ (p.y *ℤ q.w) +ℤ j *ℤ (q.y *ℤ p.w)
     → Crossed e p q
 crossed_by e p q m i j h i0 i1 j0 j1 ex ey = record {
-  spot = spot_at e m i h;
-  on = spot_at_IsOn e m i h i0 i1;
+  rational_point = rational_point_at e m i h;
+  on = rational_point_at_IsOn e m i h i0 i1;
   between = record {
     part = j;
     whole = m;
     starts = j0;
     ends = j1;
     positive = h;
-    along_x = spot_between_at (over p q) m i j e.a.x e.b.x (p.x *ℤ q.w) (q.x *ℤ p.w) ex;
-    along_y = spot_between_at (over p q) m i j e.a.y e.b.y (p.y *ℤ q.w) (q.y *ℤ p.w) ey;
+    along_x = rational_point_between_at (over p q) m i j e.a.x e.b.x (p.x *ℤ q.w) (q.x *ℤ p.w) ex;
+    along_y = rational_point_between_at (over p q) m i j e.a.y e.b.y (p.y *ℤ q.w) (q.y *ℤ p.w) ey;
   };
 }
 
@@ -201,7 +201,7 @@ negated k i j a b p q h =
     ring_by (k ∷ i ∷ j ∷ a ∷ b ∷ p ∷ q ∷ []) (fact (minus (num (pos 1))) ((K ⊖ minus I) ⊗ A ⊕ minus I ⊗ B) ((K ⊖ J) ⊗ P ⊕ J ⊗ Q) ∷ []) (h, tt)
     ((minus K ⊖ I) ⊗ A ⊕ I ⊗ B) ((minus K ⊖ minus J) ⊗ P ⊕ minus J ⊗ Q) tt
 
-cut_crossed : (e : Seg) (p q : Spot) → Cut (sideP e p q) (sideQ e p q) (sideC e.a p q) (sideC e.b p q) → sideP e p q -ℤ sideQ e p q ≡ sideC e.b p q -ℤ sideC e.a p q → Crossed e p q
+cut_crossed : (e : Seg) (p q : RationalPoint) → Cut (sideP e p q) (sideQ e p q) (sideC e.a p q) (sideC e.b p q) → sideP e p q -ℤ sideQ e p q ≡ sideC e.b p q -ℤ sideC e.a p q → Crossed e p q
 cut_crossed e p q (falls sp sq ta tb k) t =
     let ax = over p q *ℤ e.a.x in let ay = over p q *ℤ e.a.y in let bx = over p q *ℤ e.b.x in let by = over p q *ℤ e.b.y in
     let px = p.x *ℤ q.w in let py = p.y *ℤ q.w in let qx = q.x *ℤ p.w in let qy = q.y *ℤ p.w in
@@ -237,10 +237,10 @@ cut_crossed e p q (climbs sp sq ta tb k) t =
     rest : (a b : ℤ) → pos 0 ≤ℤ b → neg_ℤ a ≤ℤ neg_ℤ (a -ℤ b)
     rest a b h = omega (arith, ints)
 
-abbrev Agrees : Seg → Spot → Spot → Type 0
+abbrev Agrees : Seg → RationalPoint → RationalPoint → Type 0
 Agrees e p q = differ (passes p e) (passes q e) ≡ differ (mark p q e.a) (mark p q e.b)
 
-edge_step : (e : Seg) (p q : Spot) → (p.y *ℤ q.w) ≤ℤ (q.y *ℤ p.w) → Agrees e p q ⊎ Crossed e p q
+edge_step : (e : Seg) (p q : RationalPoint) → (p.y *ℤ q.w) ≤ℤ (q.y *ℤ p.w) → Agrees e p q ⊎ Crossed e p q
 edge_step e p q h =
     let ax = over p q *ℤ e.a.x in let ay = over p q *ℤ e.a.y in let bx = over p q *ℤ e.b.x in let by = over p q *ℤ e.b.y in
     let px = p.x *ℤ q.w in let py = p.y *ℤ q.w in let qx = q.x *ℤ p.w in let qy = q.y *ℤ p.w in
@@ -299,13 +299,13 @@ both_steps f (inl a) (inl b) = inl (f a b)
 both_steps f (inr p) b = inr (inl p)
 both_steps f (inl a) (inr q) = inr (inr q)
 
-path_step : (p q : Spot) → (p.y *ℤ q.w) ≤ℤ (q.y *ℤ p.w) → (a : Point) (cs : List Point) → (differ (is_odd p (path a cs)) (is_odd q (path a cs)) ≡ differ (mark p q a) (mark p q (last_of a cs))) ⊎ SomeEdge (λ e. Crossed e p q) (path a cs)
+path_step : (p q : RationalPoint) → (p.y *ℤ q.w) ≤ℤ (q.y *ℤ p.w) → (a : Point) (cs : List Point) → (differ (is_odd p (path a cs)) (is_odd q (path a cs)) ≡ differ (mark p q a) (mark p q (last_of a cs))) ⊎ SomeEdge (λ e. Crossed e p q) (path a cs)
 path_step p q h a [] = inl (differ_self (mark p q a))
 path_step p q h a (b ∷ cs) = both_steps
     (link (passes p (edge a b)) (is_odd p (path b cs)) (passes q (edge a b)) (is_odd q (path b cs)) (mark p q a) (mark p q b) (mark p q (last_of b cs)))
     (edge_step (edge a b) p q h) (path_step p q h b cs)
 
-outline_step : (p q : Spot) → (p.y *ℤ q.w) ≤ℤ (q.y *ℤ p.w) → (cs : List Point) → (is_odd p (outline cs) ≡ is_odd q (outline cs)) ⊎ SomeEdge (λ e. Crossed e p q) (outline cs)
+outline_step : (p q : RationalPoint) → (p.y *ℤ q.w) ≤ℤ (q.y *ℤ p.w) → (cs : List Point) → (is_odd p (outline cs) ≡ is_odd q (outline cs)) ⊎ SomeEdge (λ e. Crossed e p q) (outline cs)
 outline_step p q h [] = inl refl
 outline_step p q h (c ∷ cs) =
     let es = outline (c ∷ cs) in
@@ -317,7 +317,7 @@ SomeEdge-weaker f (e ∷ es) (inl x) = inl (f e x)
 SomeEdge-weaker f (e ∷ es) (inr x) = inr (SomeEdge-weaker f es x)
 
 -- the parities of p and q agree, or an edge meets the way from p to q
-pub same_or_crossed : (cs : List Point) (p q : Spot) → (is_odd p (outline cs) ≡ is_odd q (outline cs)) ⊎ SomeEdge (λ e. Crossed e p q) (outline cs)
+pub same_or_crossed : (cs : List Point) (p q : RationalPoint) → (is_odd p (outline cs) ≡ is_odd q (outline cs)) ⊎ SomeEdge (λ e. Crossed e p q) (outline cs)
 same_or_crossed cs p q = by_lt_z (q.y *ℤ p.w) (p.y *ℤ q.w)
     (λ h. on_both sym (SomeEdge-weaker (λ e. Crossed-back e q p) (outline cs)) (outline_step q p (low (q.y *ℤ p.w) (p.y *ℤ q.w) h) cs))
     (λ h. outline_step p q h cs)

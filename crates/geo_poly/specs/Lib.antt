@@ -1,4 +1,4 @@
-pub mod Outlines
-pub mod Runs
-pub mod Steps
-pub mod Parts
+pub mod OutlineEdges
+pub mod EdgeRuns
+pub mod OutlineSteps
+pub mod OutlineParts

@@ -2,13 +2,13 @@
 
 ghost use Rattle.std.specs.Prelude.{◌<◌, ◌≤◌, ◌<ℤ◌, ◌≤ℤ◌, ◌+ℤ◌, pos, IsTrue, IfSome, IfNone, ◌↔◌, ◌⊎◌, length};
 ghost use Rattle.geo_seg.specs.Nearer.{IsUpTo, IsDistance};
-ghost use Rattle.geo_seg.specs.Points.{IsOn, spot_of};
+ghost use Rattle.geo_seg.specs.Points.{IsOn, rational_point_of};
 ghost use Rattle.geo_seg.specs.Boxes.{IsLeastBox, FitsCore};
 ghost use Rattle.geo_seg.specs.Inside.{outline, EachEdge, SomeEdge};
-ghost use Rattle.geo_seg.specs.Runs.{IsRunBox};
-ghost use Rattle.geo_poly.specs.Outlines.{IsApart, IsReached, IsEnclosed};
-ghost use Rattle.geo_poly.specs.Runs.{between, LiesClear, PassOdd, IsBeside};
-ghost use Rattle.geo_poly.specs.Steps.{IsPast};
+ghost use Rattle.geo_seg.specs.RunBoxes.{IsRunBox};
+ghost use Rattle.geo_poly.specs.OutlineEdges.{IsApart, IsReached, IsEnclosed};
+ghost use Rattle.geo_poly.specs.EdgeRuns.{between, LiesClear, PassOdd, IsBeside};
+ghost use Rattle.geo_poly.specs.OutlineSteps.{IsPast};
 
 use crate::edges::{before, path_apart, path_within};
 use crate::parity::{Step, ends_odd, path_odd};
@@ -46,7 +46,7 @@ fn told_clear(
     requires fits { FitsCore near }
     requires range { IsUpTo (pos 2000000001) d }
     requires positive { pos 0 <ℤ d }
-    ensures odd { IfSome result (λ odd. IsTrue odd ↔ PassOdd (spot_of s.a)
+    ensures odd { IfSome result (λ odd. IsTrue odd ↔ PassOdd (rational_point_of s.a)
         (between low high (outline corners.now))) }
     ensures clear { IfSome result (λ odd. EachEdge (LiesClear near d)
         (between low high (outline corners.now))) }
@@ -69,7 +69,8 @@ fn clear_step(poly: &Poly, low: usize, size: usize, s: Seg, near: Bounds, d: i64
     requires fits { FitsCore near }
     requires range { IsUpTo (pos 2000000001) d }
     requires positive { pos 0 <ℤ d }
-    ensures { IfSome result (IsPast (EachEdge (LiesClear near d)) poly.now (spot_of s.a) low) }
+    ensures { IfSome result (IsPast (EachEdge (LiesClear near d)) poly.now
+        (rational_point_of s.a) low) }
 {
     let b = poly.run_box(low, size)?;
     let corners = poly.corners();
@@ -86,7 +87,8 @@ fn longest_step(poly: &Poly, low: usize, s: Seg, near: Bounds, d: i64) -> Option
     requires fits { FitsCore near }
     requires range { IsUpTo (pos 2000000001) d }
     requires positive { pos 0 <ℤ d }
-    ensures { IfSome result (IsPast (EachEdge (LiesClear near d)) poly.now (spot_of s.a) low) }
+    ensures { IfSome result (IsPast (EachEdge (LiesClear near d)) poly.now
+        (rational_point_of s.a) low) }
 {
     if low % THIRD_RUN != 0 {
         None
@@ -105,7 +107,8 @@ fn long_step(poly: &Poly, low: usize, s: Seg, near: Bounds, d: i64) -> Option<St
     requires fits { FitsCore near }
     requires range { IsUpTo (pos 2000000001) d }
     requires positive { pos 0 <ℤ d }
-    ensures { IfSome result (IsPast (EachEdge (LiesClear near d)) poly.now (spot_of s.a) low) }
+    ensures { IfSome result (IsPast (EachEdge (LiesClear near d)) poly.now
+        (rational_point_of s.a) low) }
 {
     if low % SECOND_RUN != 0 {
         None
@@ -124,7 +127,8 @@ fn any_step(poly: &Poly, low: usize, s: Seg, near: Bounds, d: i64) -> Option<Ste
     requires fits { FitsCore near }
     requires range { IsUpTo (pos 2000000001) d }
     requires positive { pos 0 <ℤ d }
-    ensures { IfSome result (IsPast (EachEdge (LiesClear near d)) poly.now (spot_of s.a) low) }
+    ensures { IfSome result (IsPast (EachEdge (LiesClear near d)) poly.now
+        (rational_point_of s.a) low) }
 {
     if let Some(step) = long_step(poly, low, s, near, d) {
         Some(step)
@@ -138,7 +142,7 @@ fn near_step(poly: &Poly, low: usize, s: Seg, d: i64) -> Option<Step>
     requires low { low < length poly.now }
     requires range { IsDistance d }
     ensures past { IfSome result (IsPast (EachEdge (λ e. IsApart e s d)) poly.now
-        (spot_of s.a) low) }
+        (rational_point_of s.a) low) }
     ensures stuck { IfNone result (¬ (EachEdge (λ e. IsApart e s d) (outline poly.now))) }
 {
     let corners = poly.corners();
@@ -162,7 +166,7 @@ fn apart_step(poly: &Poly, low: usize, s: Seg, near: Bounds, d: i64) -> Option<S
     requires range { IsDistance d }
     requires positive { pos 0 <ℤ d }
     ensures past { IfSome result (IsPast (EachEdge (λ e. IsApart e s d)) poly.now
-        (spot_of s.a) low) }
+        (rational_point_of s.a) low) }
     ensures stuck { IfNone result (¬ (EachEdge (λ e. IsApart e s d) (outline poly.now))) }
 {
     if let Some(step) = any_step(poly, low, s, near, d) {
@@ -176,7 +180,7 @@ fn apart_step(poly: &Poly, low: usize, s: Seg, near: Bounds, d: i64) -> Option<S
 pub(crate) fn is_beyond(poly: &Poly, s: Seg, d: i64) -> bool
     requires range { IsDistance d }
     requires positive { pos 0 <ℤ d }
-    ensures { IsTrue result ↔ ((¬ (IsEnclosed poly.now (spot_of s.a)))
+    ensures { IsTrue result ↔ ((¬ (IsEnclosed poly.now (rational_point_of s.a)))
         × EachEdge (λ e. IsApart e s d) (outline poly.now)) }
 {
     let corners = poly.corners();
@@ -205,7 +209,7 @@ fn far_step(poly: &Poly, low: usize, s: Seg, d: i64) -> Option<Step>
     requires low { low < length poly.now }
     requires range { IsDistance d }
     ensures past { IfSome result (IsPast (λ es. ¬ (SomeEdge (λ e. IsReached e s d) es)) poly.now
-        (spot_of s.a) low) }
+        (rational_point_of s.a) low) }
     ensures stuck { IfNone result (SomeEdge (λ e. IsReached e s d) (outline poly.now)) }
 {
     let corners = poly.corners();
@@ -228,7 +232,7 @@ fn beyond_step(poly: &Poly, low: usize, s: Seg, near: Bounds, d: i64) -> Option<
     requires fits { FitsCore near }
     requires range { IsDistance d }
     ensures past { IfSome result (IsPast (λ es. ¬ (SomeEdge (λ e. IsReached e s d) es)) poly.now
-        (spot_of s.a) low) }
+        (rational_point_of s.a) low) }
     ensures stuck { IfNone result (SomeEdge (λ e. IsReached e s d) (outline poly.now)) }
 {
     if let Some(step) = any_step(poly, low, s, near, d + 1) {
@@ -241,7 +245,7 @@ fn beyond_step(poly: &Poly, low: usize, s: Seg, near: Bounds, d: i64) -> Option<
 /// Whether some edge of the polygon is within d of the segment, or the segment begins inside.
 pub(crate) fn is_reached(poly: &Poly, s: Seg, d: i64) -> bool
     requires { IsDistance d }
-    ensures { IsTrue result ↔ (IsEnclosed poly.now (spot_of s.a)
+    ensures { IsTrue result ↔ (IsEnclosed poly.now (rational_point_of s.a)
         ⊎ SomeEdge (λ e. IsReached e s d) (outline poly.now)) }
 {
     let corners = poly.corners();

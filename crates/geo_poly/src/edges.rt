@@ -6,7 +6,7 @@ ghost use Rattle.geo_seg.specs.Points.{IsOn};
 ghost use Rattle.geo_seg.specs.Boxes.{IsLeastBox, FitsCore};
 ghost use Rattle.geo_seg.specs.Distances.{IsGap};
 ghost use Rattle.geo_seg.specs.Inside.{path, outline, EachEdge, SomeEdge};
-ghost use Rattle.geo_poly.specs.Outlines.{IsApart, IsReached};
+ghost use Rattle.geo_poly.specs.OutlineEdges.{IsApart, IsReached};
 
 use geo_seg::{Bounds, Point, Seg, seg_apart, seg_gap, seg_within};
 

@@ -7,10 +7,10 @@ ghost use Rattle.geo_seg.specs.Nearer.{IsDistance};
 ghost use Rattle.geo_seg.specs.Boxes.{IsLeastBox, FitsCore};
 ghost use Rattle.geo_seg.specs.Distances.{IsGap};
 ghost use Rattle.geo_seg.specs.Inside.{path, outline, EachEdge};
-ghost use Rattle.geo_seg.specs.Runs.{IsRunBox};
-ghost use Rattle.geo_poly.specs.Outlines.{IsApart, EachApart};
-ghost use Rattle.geo_poly.specs.Runs.{between};
-ghost use Rattle.geo_poly.specs.Parts.{IsRunOf, edges_of};
+ghost use Rattle.geo_seg.specs.RunBoxes.{IsRunBox};
+ghost use Rattle.geo_poly.specs.OutlineEdges.{IsApart, EachApart};
+ghost use Rattle.geo_poly.specs.EdgeRuns.{between};
+ghost use Rattle.geo_poly.specs.OutlineParts.{IsRunOf, edges_of};
 
 use crate::edges::{before, path_gap};
 use crate::runs::{Part, part_of, whole};

@@ -2,13 +2,13 @@
 
 ghost use Rattle.std.specs.Prelude.{◌≡◌, ◌<◌, ◌≤◌, ◌<ℤ◌, IsTrue, IfSome, ◌↔◌, length};
 ghost use Rattle.geo_seg.specs.declared.boxes.Bounds.{Bounds};
-ghost use Rattle.geo_seg.specs.Points.{spot_of};
+ghost use Rattle.geo_seg.specs.Points.{rational_point_of};
 ghost use Rattle.geo_seg.specs.Boxes.{FitsCore};
 ghost use Rattle.geo_seg.specs.Inside.{passes, path, outline};
-ghost use Rattle.geo_seg.specs.Runs.{IsRunBox};
-ghost use Rattle.geo_poly.specs.Outlines.{IsEnclosed};
-ghost use Rattle.geo_poly.specs.Runs.{between, PassOdd, IsMissed};
-ghost use Rattle.geo_poly.specs.Steps.{IsStep};
+ghost use Rattle.geo_seg.specs.RunBoxes.{IsRunBox};
+ghost use Rattle.geo_poly.specs.OutlineEdges.{IsEnclosed};
+ghost use Rattle.geo_poly.specs.EdgeRuns.{between, PassOdd, IsMissed};
+ghost use Rattle.geo_poly.specs.OutlineSteps.{IsParityStep};
 
 use crate::edges::before;
 use crate::walks::end;
@@ -18,7 +18,7 @@ use geo_seg::{Bounds, FIRST_RUN, FOURTH_RUN, Point, Poly, SECOND_RUN, Seg, THIRD
 /// edge counts with its end of lesser y and without the other, so that a corner on the ray counts
 /// once.
 fn passes_right(p: Point, e: Seg) -> bool
-    ensures { result ≡ passes (spot_of p) e }
+    ensures { result ≡ passes (rational_point_of p) e }
 {
     if e.a.y <= p.y {
         if e.b.y <= p.y {
@@ -35,7 +35,7 @@ fn passes_right(p: Point, e: Seg) -> bool
 
 /// Whether an odd number of the path's edges passes to the right of the point.
 pub(crate) fn path_odd(from: Point, part: &[Point], p: Point) -> bool
-    ensures { IsTrue result ↔ PassOdd (spot_of p) (path from part.now) }
+    ensures { IsTrue result ↔ PassOdd (rational_point_of p) (path from part.now) }
 {
     let mut at = from;
     let mut odd = false;
@@ -62,7 +62,7 @@ pub(crate) fn ends_odd(corners: &[Point], low: usize, high: usize, p: Point) -> 
     requires low { low < high }
     requires high { high ≤ length corners.now }
     ensures { (b : Bounds) → p.x <ℤ b.left → IsRunBox (between low high (outline corners.now)) b
-        → (IsTrue result ↔ PassOdd (spot_of p) (between low high (outline corners.now))) }
+        → (IsTrue result ↔ PassOdd (rational_point_of p) (between low high (outline corners.now))) }
 {
     let part = &corners[low..high];
     (before(corners, low).y <= p.y) != (part[part.len() - 1].y <= p.y)
@@ -74,7 +74,7 @@ fn told_by(b: Bounds, corners: &[Point], low: usize, high: usize, p: Point) -> O
     requires low { low < high }
     requires high { high ≤ length corners.now }
     requires hull { IsRunBox (between low high (outline corners.now)) b }
-    ensures { IfSome result (λ odd. IsTrue odd ↔ PassOdd (spot_of p)
+    ensures { IfSome result (λ odd. IsTrue odd ↔ PassOdd (rational_point_of p)
         (between low high (outline corners.now))) }
 {
     if is_missed(b, p) {
@@ -97,7 +97,7 @@ pub(crate) struct Step {
 fn told(poly: &Poly, low: usize, size: usize, p: Point) -> Option<Step>
     requires low { low < length poly.now }
     requires size { 0 < size }
-    ensures { IfSome result (λ step. IsStep poly.now (spot_of p) low step) }
+    ensures { IfSome result (λ step. IsParityStep poly.now (rational_point_of p) low step) }
 {
     let b = poly.run_box(low, size)?;
     let corners = poly.corners();
@@ -109,7 +109,7 @@ fn told(poly: &Poly, low: usize, size: usize, p: Point) -> Option<Step>
 /// A step from `low` on by a few edges, that looks at each.
 fn short_step(poly: &Poly, low: usize, p: Point) -> Step
     requires { low < length poly.now }
-    ensures { IsStep poly.now (spot_of p) low result }
+    ensures { IsParityStep poly.now (rational_point_of p) low result }
 {
     let corners = poly.corners();
     let high = end(low, FIRST_RUN, corners.len());
@@ -120,7 +120,7 @@ fn short_step(poly: &Poly, low: usize, p: Point) -> Step
 /// The longest step from `low` on that is told by a box, or else one by edges.
 fn next_step(poly: &Poly, low: usize, p: Point) -> Step
     requires { low < length poly.now }
-    ensures { IsStep poly.now (spot_of p) low result }
+    ensures { IsParityStep poly.now (rational_point_of p) low result }
 {
     if let Some(step) = told(poly, low, FOURTH_RUN, p) {
         step
@@ -137,7 +137,7 @@ fn next_step(poly: &Poly, low: usize, p: Point) -> Step
 
 /// Whether an odd number of the polygon's edges passes to the right of the point.
 pub(crate) fn is_enclosed(poly: &Poly, p: Point) -> bool
-    ensures { IsTrue result ↔ IsEnclosed poly.now (spot_of p) }
+    ensures { IsTrue result ↔ IsEnclosed poly.now (rational_point_of p) }
 {
     let corners = poly.corners();
     if poly.run_box(0, FIRST_RUN).is_none() {

@@ -1,11 +1,11 @@
 // Polygons with all their points. The boxes that they keep decide most questions.
 
 ghost use Rattle.std.specs.Prelude.{IsTrue, ◌↔◌, ◌⊎◌};
-ghost use Rattle.geo_seg.specs.Points.{IsOn, spot_of};
+ghost use Rattle.geo_seg.specs.Points.{IsOn, rational_point_of};
 ghost use Rattle.geo_seg.specs.Nearer.{IsDistance, AreApart, AreWithin};
 ghost use Rattle.geo_seg.specs.Distances.{IsGap};
 ghost use Rattle.geo_seg.specs.Inside.{IsInside};
-ghost use Rattle.geo_poly.specs.Outlines.{EndsInside};
+ghost use Rattle.geo_poly.specs.OutlineEdges.{EndsInside};
 
 use crate::besides::{is_beyond, is_reached};
 use crate::gaps::{outline_gap, outlines_gap};
@@ -15,7 +15,7 @@ use geo_seg::{Point, Poly, Seg};
 
 /// `holds` for a point that may lie in the polygon's box.
 fn has_point(poly: &Poly, p: Point) -> bool
-    ensures { IsTrue result ↔ IsInside poly.now (spot_of p) }
+    ensures { IsTrue result ↔ IsInside poly.now (rational_point_of p) }
 {
     is_reached(poly, Seg { a: p, b: p }, 0)
 }
@@ -69,7 +69,7 @@ fn areas_within(a: &Poly, b: &Poly, d: i64) -> bool
 /// Whether the point lies on an edge of the polygon, or inside: an odd number of edges passes to its
 /// right (the even-odd rule), where an edge counts with its end of lesser y and without the other.
 pub fn holds(poly: &Poly, p: Point) -> bool
-    ensures { IsTrue result ↔ IsInside poly.now (spot_of p) }
+    ensures { IsTrue result ↔ IsInside poly.now (rational_point_of p) }
 {
     !p.bounds().is_clear(poly.bounds(), 1) && has_point(poly, p)
 }

@@ -4,10 +4,10 @@
 ghost use Rattle.std.specs.Prelude.{◌≡◌, ◌<◌, ◌≤◌, IsTrue, ◌↔◌, length};
 ghost use Rattle.geo_seg.specs.Nearer.{IsDistance};
 ghost use Rattle.geo_seg.specs.Inside.{path, outline, EachEdge, SomeEdge};
-ghost use Rattle.geo_seg.specs.Runs.{IsRunBox};
-ghost use Rattle.geo_poly.specs.Outlines.{IsApart, IsReached, EachApart, SomeReached};
-ghost use Rattle.geo_poly.specs.Runs.{between};
-ghost use Rattle.geo_poly.specs.Parts.{IsRunOf, edges_of};
+ghost use Rattle.geo_seg.specs.RunBoxes.{IsRunBox};
+ghost use Rattle.geo_poly.specs.OutlineEdges.{IsApart, IsReached, EachApart, SomeReached};
+ghost use Rattle.geo_poly.specs.EdgeRuns.{between};
+ghost use Rattle.geo_poly.specs.OutlineParts.{IsRunOf, edges_of};
 
 use crate::edges::{before, path_apart, path_within};
 use crate::walks::end;

@@ -7,8 +7,8 @@ ghost use Rattle.geo_seg.specs.declared.points.Seg.{Seg};
 ghost use Rattle.geo_seg.specs.Points.{IsOn};
 ghost use Rattle.geo_seg.specs.Boxes.{IsLeastBox, FitsCore};
 ghost use Rattle.geo_seg.specs.Inside.{outline, EachEdge};
-ghost use Rattle.geo_poly.specs.Outlines.{IsApart};
-ghost use Rattle.geo_poly.specs.Runs.{between, LiesClear};
+ghost use Rattle.geo_poly.specs.OutlineEdges.{IsApart};
+ghost use Rattle.geo_poly.specs.EdgeRuns.{between, LiesClear};
 
 use crate::edges::{before, path_apart};
 use geo_seg::{Bounds, FIRST_RUN, FOURTH_RUN, Poly, SECOND_RUN, Seg, THIRD_RUN};

@@ -6,13 +6,13 @@ use Rattle.int_algebra.proofs.Order.{product-nonneg, square-nonneg, sum-nonneg, 
 use Rattle.geo_seg.specs.declared.points.Point.{Point}
 use Rattle.geo_seg.specs.declared.points.Seg.{Seg}
 use Rattle.geo_seg.specs.declared.boxes.Bounds.{Bounds}
-use Rattle.geo_seg.specs.Points.{Spot, IsAt, IsOn, spot_of}
+use Rattle.geo_seg.specs.Points.{RationalPoint, IsAt, IsOn, rational_point_of}
 use Rattle.geo_seg.specs.Nearer.{square, squared_gap, squared_limit, IsNearer, AreApart, AreWithin}
 use Rattle.geo_seg.specs.Boxes.{IsInBox, IsLeastBox, AreClear}
-use Rattle.geo_seg.specs.Corners.{IsHeld}
+use Rattle.geo_seg.specs.PolygonCorners.{IsHeld}
 use Rattle.geo_seg.proofs.Distances.{apart_not_within}
 
--- a spot of a segment lies in each range that its ends lie in
+-- a rational point of a segment lies in each range that its ends lie in
 below_at : (m i w x a b hi : ℤ) → pos 0 ≤ℤ i → i ≤ℤ m → pos 0 <ℤ m → pos 0 <ℤ w → m *ℤ x ≡ w *ℤ ((m -ℤ i) *ℤ a +ℤ i *ℤ b) → a ≤ℤ hi → b ≤ℤ hi → x ≤ℤ (w *ℤ hi)
 below_at m i w x a b hi h0 h1 hm hw e ha hb =
     let M = var 0 in let I = var 1 in let W = var 2 in let X = var 3 in let A = var 4 in let B = var 5 in let H = var 6 in
@@ -51,7 +51,7 @@ flip_sum : (a b c : ℤ) → c ≤ℤ (a +ℤ b) → c ≤ℤ (b +ℤ a)
 flip_sum a b c h = omega (arith, ints)
 
 -- ---- points and segments in a box
-pub at_in_box : (b : Bounds) (p : Point) (q : Spot) → IsHeld b p → IsAt p q → IsInBox b q
+pub at_in_box : (b : Bounds) (p : Point) (q : RationalPoint) → IsHeld b p → IsAt p q → IsInBox b q
 at_in_box b p q h e =
     let w0 = lt-le (pos 0) q.w q.positive in
     record {
@@ -67,7 +67,7 @@ at_in_box b p q h e =
     to_left : (u v x : ℤ) → x ≡ v → v ≤ℤ u → x ≤ℤ u
     to_left u v x e h = omega (arith, ints)
 
-pub on_in_box : (b : Bounds) (s : Seg) (p : Spot) → IsHeld b s.a → IsHeld b s.b → IsOn s p → IsInBox b p
+pub on_in_box : (b : Bounds) (s : Seg) (p : RationalPoint) → IsHeld b s.a → IsHeld b s.b → IsOn s p → IsInBox b p
 on_in_box b s p h k o = record {
   left = above_at o.whole o.part p.w p.x s.a.x s.b.x b.left o.starts o.ends o.positive p.positive o.along_x h.left k.left;
   top = above_at o.whole o.part p.w p.y s.a.y s.b.y b.top o.starts o.ends o.positive p.positive o.along_y h.top k.top;
@@ -75,8 +75,8 @@ on_in_box b s p h k o = record {
   bottom = below_at o.whole o.part p.w p.y s.a.y s.b.y b.bottom o.starts o.ends o.positive p.positive o.along_y h.bottom k.bottom;
 }
 
-pub held_of_in_box : (b : Bounds) (p : Point) → IsInBox b (spot_of p) → IsHeld b p
-unfolding spot_of
+pub held_of_in_box : (b : Bounds) (p : Point) → IsInBox b (rational_point_of p) → IsHeld b p
+unfolding rational_point_of
 held_of_in_box b p h = record { left = up b.left p.x h.left; top = up b.top p.y h.top; right = down b.right p.x h.right; bottom = down b.bottom p.y h.bottom }
   where
     up : (u x : ℤ) → (pos 1 *ℤ u) ≤ℤ x → u ≤ℤ x
@@ -85,8 +85,8 @@ held_of_in_box b p h = record { left = up b.left p.x h.left; top = up b.top p.y 
     down : (u x : ℤ) → x ≤ℤ (pos 1 *ℤ u) → x ≤ℤ u
     down u x h = omega (arith, ints)
 
-pub start_on : (s : Seg) → IsOn s (spot_of s.a)
-unfolding spot_of
+pub start_on : (s : Seg) → IsOn s (rational_point_of s.a)
+unfolding rational_point_of
 start_on s = record {
   part = pos 0;
   whole = pos 1;
@@ -100,8 +100,8 @@ start_on s = record {
     at_part : (u v : ℤ) → pos 1 *ℤ u ≡ pos 1 *ℤ ((pos 1 -ℤ pos 0) *ℤ u +ℤ pos 0 *ℤ v)
     at_part u v = omega (arith, ints)
 
-pub end_on : (s : Seg) → IsOn s (spot_of s.b)
-unfolding spot_of
+pub end_on : (s : Seg) → IsOn s (rational_point_of s.b)
+unfolding rational_point_of
 end_on s = record {
   part = pos 1;
   whole = pos 1;
@@ -116,37 +116,37 @@ end_on s = record {
     at_part u v = omega (arith, ints)
 
 -- ---- boxes that are clear of each other
-clear_x : (b c : Bounds) (p q : Spot) (d : ℤ) → pos 0 ≤ℤ d → IsInBox b p → IsInBox c q → (b.right +ℤ d) ≤ℤ c.left → ¬ (IsNearer d p q)
+clear_x : (b c : Bounds) (p q : RationalPoint) (d : ℤ) → pos 0 ≤ℤ d → IsInBox b p → IsInBox c q → (b.right +ℤ d) ≤ℤ c.left → ¬ (IsNearer d p q)
 clear_x b c p q d hd hp hq h n = not_lt (squared_limit d p q) (squared_gap p q) (wide_gap p.x p.w q.x q.w b.right c.left d (p.y *ℤ q.w -ℤ q.y *ℤ p.w) p.positive q.positive hd hp.right hq.left h) n
 
-clear_y : (b c : Bounds) (p q : Spot) (d : ℤ) → pos 0 ≤ℤ d → IsInBox b p → IsInBox c q → (b.bottom +ℤ d) ≤ℤ c.top → ¬ (IsNearer d p q)
+clear_y : (b c : Bounds) (p q : RationalPoint) (d : ℤ) → pos 0 ≤ℤ d → IsInBox b p → IsInBox c q → (b.bottom +ℤ d) ≤ℤ c.top → ¬ (IsNearer d p q)
 clear_y b c p q d hd hp hq h n = not_lt (squared_limit d p q) (squared_gap p q) (flip_sum (square (p.y *ℤ q.w -ℤ q.y *ℤ p.w)) (square (p.x *ℤ q.w -ℤ q.x *ℤ p.w)) (squared_limit d p q) (wide_gap p.y p.w q.y q.w b.bottom c.top d (p.x *ℤ q.w -ℤ q.x *ℤ p.w) p.positive q.positive hd hp.bottom hq.top h)) n
 
-gap_sym : (p q : Spot) → squared_gap p q ≡ squared_gap q p
+gap_sym : (p q : RationalPoint) → squared_gap p q ≡ squared_gap q p
 gap_sym p q =
     let Px = var 0 in let Py = var 1 in let Pw = var 2 in let Qx = var 3 in let Qy = var 4 in let Qw = var 5 in
     ring (p.x ∷ p.y ∷ p.w ∷ q.x ∷ q.y ∷ q.w ∷ []) (sq (Px ⊗ Qw ⊖ Qx ⊗ Pw) ⊕ sq (Py ⊗ Qw ⊖ Qy ⊗ Pw)) (sq (Qx ⊗ Pw ⊖ Px ⊗ Qw) ⊕ sq (Qy ⊗ Pw ⊖ Py ⊗ Qw)) tt
 
-limit_sym : (d : ℤ) (p q : Spot) → squared_limit d p q ≡ squared_limit d q p
+limit_sym : (d : ℤ) (p q : RationalPoint) → squared_limit d p q ≡ squared_limit d q p
 limit_sym d p q = ring (d ∷ p.w ∷ q.w ∷ []) (sq (var 0 ⊗ var 1 ⊗ var 2)) (sq (var 0 ⊗ var 2 ⊗ var 1)) tt
 
-pub nearer_sym : (d : ℤ) (p q : Spot) → IsNearer d p q → IsNearer d q p
+pub nearer_sym : (d : ℤ) (p q : RationalPoint) → IsNearer d p q → IsNearer d q p
 nearer_sym d p q n = along (squared_gap p q) (squared_gap q p) (squared_limit d p q) (squared_limit d q p) (gap_sym p q) (limit_sym d p q) n
   where
     along : (a a' b b' : ℤ) → a ≡ a' → b ≡ b' → a <ℤ b → a' <ℤ b'
     along a a' b b' e f h = omega (arith, ints)
 
-pub clear_not_nearer : (b c : Bounds) (p q : Spot) (d : ℤ) → pos 0 ≤ℤ d → IsInBox b p → IsInBox c q → AreClear b c d → ¬ (IsNearer d p q)
+pub clear_not_nearer : (b c : Bounds) (p q : RationalPoint) (d : ℤ) → pos 0 ≤ℤ d → IsInBox b p → IsInBox c q → AreClear b c d → ¬ (IsNearer d p q)
 clear_not_nearer b c p q d hd hp hq (inl (inl h)) n = clear_x b c p q d hd hp hq h n
 clear_not_nearer b c p q d hd hp hq (inl (inr h)) n = clear_x c b q p d hd hq hp h (nearer_sym d p q n)
 clear_not_nearer b c p q d hd hp hq (inr (inl h)) n = clear_y b c p q d hd hp hq h n
 clear_not_nearer b c p q d hd hp hq (inr (inr h)) n = clear_y c b q p d hd hq hp h (nearer_sym d p q n)
 
 -- sets of points whose boxes are clear at d are apart at d
-pub clear_apart : (P Q : Spot → Type 0) (b c : Bounds) (d : ℤ) → pos 0 ≤ℤ d → IsLeastBox P b → IsLeastBox Q c → AreClear b c d → AreApart P Q d
+pub clear_apart : (P Q : RationalPoint → Type 0) (b c : Bounds) (d : ℤ) → pos 0 ≤ℤ d → IsLeastBox P b → IsLeastBox Q c → AreClear b c d → AreApart P Q d
 clear_apart P Q b c d hd hb hc h = record { apart = λ p q o u n. clear_not_nearer b c p q d hd (hb.holds p o) (hc.holds q u) h n }
 
-pub clear_not_within : (P Q : Spot → Type 0) (b c : Bounds) (d : ℤ) → pos 0 ≤ℤ d → IsLeastBox P b → IsLeastBox Q c → AreClear b c (d +ℤ pos 1) → ¬ (AreWithin P Q d)
+pub clear_not_within : (P Q : RationalPoint → Type 0) (b c : Bounds) (d : ℤ) → pos 0 ≤ℤ d → IsLeastBox P b → IsLeastBox Q c → AreClear b c (d +ℤ pos 1) → ¬ (AreWithin P Q d)
 clear_not_within P Q b c d hd hb hc h = apart_not_within P Q d (d +ℤ pos 1) hd (past d) (clear_apart P Q b c (d +ℤ pos 1) (more d hd) hb hc h)
   where
     more : (d : ℤ) → pos 0 ≤ℤ d → pos 0 ≤ℤ (d +ℤ pos 1)

@@ -5,11 +5,11 @@ use Rattle.int_algebra.proofs.Order.{le_trans}
 use Rattle.geo_seg.specs.declared.points.Point.{Point}
 use Rattle.geo_seg.specs.declared.points.Seg.{Seg}
 use Rattle.geo_seg.specs.declared.boxes.Bounds.{Bounds}
-use Rattle.geo_seg.specs.Points.{IsAt, IsOn, spot_of}
+use Rattle.geo_seg.specs.Points.{IsAt, IsOn, rational_point_of}
 use Rattle.geo_seg.specs.Boxes.{IsPartOf, IsUnion, IsLeastBox, FitsWithin}
-use Rattle.geo_seg.specs.Corners.{EachCorner, SomeCorner, IsHeld, IsCornerBox}
+use Rattle.geo_seg.specs.PolygonCorners.{EachCorner, SomeCorner, IsHeld, IsCornerBox}
 use Rattle.geo_seg.proofs.BoxLemmas.{at_in_box, on_in_box, held_of_in_box, start_on, end_on}
-use Rattle.geo_seg.proofs.PointReach.{spot_of-IsAt}
+use Rattle.geo_seg.proofs.PointReach.{rational_point_of-IsAt}
 use Rattle.geo_seg.proofs.Unions.{sides_of_union}
 
 pub each_corner : {P Q : Point → Type 0} → ((k : Point) → P k → Q k) → (cs : List Point) → EachCorner P cs → EachCorner Q cs
@@ -26,10 +26,10 @@ each_append : (P : Point → Type 0) (cs ks : List Point) → EachCorner P cs �
 each_append P [] ks h k = k
 each_append P (c ∷ cs) ks h k = (h.0, each_append P cs ks h.1 k)
 
-some_front : (P : Point → Type 0) (cs ks : List Point) → SomeCorner P cs → SomeCorner P (cs ++ ks)
-some_front P [] ks h = absurd h
-some_front P (c ∷ cs) ks (inl h) = inl h
-some_front P (c ∷ cs) ks (inr h) = inr (some_front P cs ks h)
+some_prefix : (P : Point → Type 0) (cs ks : List Point) → SomeCorner P cs → SomeCorner P (cs ++ ks)
+some_prefix P [] ks h = absurd h
+some_prefix P (c ∷ cs) ks (inl h) = inl h
+some_prefix P (c ∷ cs) ks (inr h) = inr (some_prefix P cs ks h)
 
 some_back : (P : Point → Type 0) (cs ks : List Point) → SomeCorner P ks → SomeCorner P (cs ++ ks)
 some_back P [] ks h = h
@@ -37,7 +37,7 @@ some_back P (c ∷ cs) ks h = inr (some_back P cs ks h)
 
 -- ---- the box of two lists of corners
 reached : (f : Point → ℤ) (cs ks : List Point) (u v r : ℤ) → SomeCorner (λ c. f c ≡ u) cs → SomeCorner (λ c. f c ≡ v) ks → (r ≡ u) ⊎ (r ≡ v) → SomeCorner (λ c. f c ≡ r) (cs ++ ks)
-reached f cs ks u v r h k (inl e) = subst (λ (z : ℤ). SomeCorner (λ c. f c ≡ z) (cs ++ ks)) (sym e) (some_front (λ c. f c ≡ u) cs ks h)
+reached f cs ks u v r h k (inl e) = subst (λ (z : ℤ). SomeCorner (λ c. f c ≡ z) (cs ++ ks)) (sym e) (some_prefix (λ c. f c ≡ u) cs ks h)
 reached f cs ks u v r h k (inr e) = subst (λ (z : ℤ). SomeCorner (λ c. f c ≡ z) (cs ++ ks)) (sym e) (some_back (λ c. f c ≡ v) cs ks k)
 
 wider : (b r : Bounds) → IsPartOf b r → (cs : List Point) → EachCorner (IsHeld b) cs → EachCorner (IsHeld r) cs
@@ -71,13 +71,13 @@ box_part cs b c h k = record {
 pub point_box : (p : Point) (b : Bounds) → IsCornerBox (p ∷ []) b → IsLeastBox (IsAt p) b
 point_box p b h = record {
   holds = λ q o. at_in_box b p q h.holds.0 o;
-  least = λ c k. box_part (p ∷ []) b c h (held_of_in_box c p (k (spot_of p) (spot_of-IsAt p)), tt);
+  least = λ c k. box_part (p ∷ []) b c h (held_of_in_box c p (k (rational_point_of p) (rational_point_of-IsAt p)), tt);
 }
 
 pub seg_box : (s : Seg) (b : Bounds) → IsCornerBox (s.a ∷ s.b ∷ []) b → IsLeastBox (IsOn s) b
 seg_box s b h = record {
   holds = λ q o. on_in_box b s q h.holds.0 h.holds.1.0 o;
-  least = λ c k. box_part (s.a ∷ s.b ∷ []) b c h (held_of_in_box c s.a (k (spot_of s.a) (start_on s)), (held_of_in_box c s.b (k (spot_of s.b) (end_on s)), tt));
+  least = λ c k. box_part (s.a ∷ s.b ∷ []) b c h (held_of_in_box c s.a (k (rational_point_of s.a) (start_on s)), (held_of_in_box c s.b (k (rational_point_of s.b) (end_on s)), tt));
 }
 
 -- ---- its sides are within the range of corners

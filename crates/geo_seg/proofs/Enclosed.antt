@@ -1,4 +1,4 @@
--- The box of a polygon's corners holds all of its points: a spot to the left of all corners is passed by every edge that
+-- The box of a polygon's corners holds all of its points: a rational point to the left of all corners is passed by every edge that
 -- crosses its height, and a closed path crosses each height an even number of times.
 use Rattle.std.proofs.Common.{◌≡◌, ℤ, pos, neg_ℤ, ◌+ℤ◌, ◌-ℤ◌, ◌*ℤ◌, ◌≤ℤ◌, ◌<ℤ◌, ◌⊎◌, Bool, true, false, List, [], ◌∷◌, refl, sym, ap, ◌∙◌, inl, inr, arith}
 use Rattle.std.proofs.lemmas.Int.{ints, by_lt_z}
@@ -8,11 +8,11 @@ use Rattle.int_algebra.proofs.Order.{product-pos, product-nonneg, sum-pos, lt-le
 use Rattle.geo_seg.specs.declared.points.Point.{Point}
 use Rattle.geo_seg.specs.declared.points.Seg.{Seg}
 use Rattle.geo_seg.specs.declared.boxes.Bounds.{Bounds}
-use Rattle.geo_seg.specs.Points.{Spot, IsOn, spot_of}
+use Rattle.geo_seg.specs.Points.{RationalPoint, IsOn, rational_point_of}
 use Rattle.geo_seg.specs.Inside.{edge, path, last_of, outline, SomeEdge, EachEdge, is_low, side, passing, passes, IsInside}
 use Rattle.geo_seg.specs.Boxes.{IsInBox, IsLeastBox}
-use Rattle.geo_seg.specs.Corners.{EachCorner, IsHeld, IsCornerBox}
-use Rattle.geo_seg.specs.Runs.{AreEndsHeld}
+use Rattle.geo_seg.specs.PolygonCorners.{EachCorner, IsHeld, IsCornerBox}
+use Rattle.geo_seg.specs.RunBoxes.{AreEndsHeld}
 use Rattle.geo_seg.proofs.BoxLemmas.{on_in_box, held_of_in_box, end_on}
 use Rattle.geo_seg.proofs.CornerBoxes.{each_corner, box_part}
 use Rattle.geo_seg.proofs.Parity.{differ, is_odd, is_odd_of, some_passes}
@@ -36,7 +36,7 @@ edge_with f [] h k = absurd k
 edge_with f (e ∷ es) h (inl k) = f e h.0 k
 edge_with f (e ∷ es) h (inr k) = edge_with f es h.1 k
 
--- ---- the side on which a spot lies of an edge that rises past it and has its ends to the right of it
+-- ---- the side on which a rational point lies of an edge that rises past it and has its ends to the right of it
 rising : (w x y ax ay cx cy : ℤ) → pos 0 <ℤ w → (w *ℤ ay) ≤ℤ y → y <ℤ (w *ℤ cy) → x <ℤ (w *ℤ ax) → x <ℤ (w *ℤ cx) → pos 0 <ℤ ((cx -ℤ ax) *ℤ (y -ℤ w *ℤ ay) -ℤ (cy -ℤ ay) *ℤ (x -ℤ w *ℤ ax))
 rising w x y ax ay cx cy hw ha hc hx hz =
     let W = var 0 in let X = var 1 in let Y = var 2 in let AX = var 3 in let AY = var 4 in let CX = var 5 in let CY = var 6 in
@@ -87,17 +87,17 @@ lt_out a b h = omega (arith, ints)
 lt_in : (a b : ℤ) → a <ℤ b → lt_z a b ≡ true
 lt_in a b h = let e : true ≡ lt_z a b = omega (arith, ints) in sym e
 
-pub record Rises (p : Spot) (e : Seg) : Type 0 where
+pub record Rises (p : RationalPoint) (e : Seg) : Type 0 where
   pub start : (p.w *ℤ e.a.y) ≤ℤ p.y
   pub end : p.y <ℤ (p.w *ℤ e.b.y)
   pub left : pos 0 <ℤ side e p
 
-pub record Falls (p : Spot) (e : Seg) : Type 0 where
+pub record Falls (p : RationalPoint) (e : Seg) : Type 0 where
   pub start : p.y <ℤ (p.w *ℤ e.a.y)
   pub end : (p.w *ℤ e.b.y) ≤ℤ p.y
   pub right : side e p <ℤ pos 0
 
-pub how_passes : (p : Spot) (e : Seg) → passes p e ≡ true → Rises p e ⊎ Falls p e
+pub how_passes : (p : RationalPoint) (e : Seg) → passes p e ≡ true → Rises p e ⊎ Falls p e
 how_passes p e h = cases (is_low p e.a) (is_low p e.b) refl refl h
   where
     cases : (l m : Bool) → is_low p e.a ≡ l → is_low p e.b ≡ m → passing l m (side e p) ≡ true → Rises p e ⊎ Falls p e
@@ -115,8 +115,8 @@ to_depth w u v y hw h k = lt-le y (w *ℤ u) (lt_le_trans y (w *ℤ v) (w *ℤ u
 clash : (u : ℤ) → pos 0 <ℤ u → u <ℤ pos 0 → ⊥
 clash u h k = omega (arith, ints)
 
--- an edge that passes is not to the left of the spot
-not_beyond : (p : Spot) (e : Seg) (r : ℤ) → e.a.x ≤ℤ r → e.b.x ≤ℤ r → Rises p e ⊎ Falls p e → (p.w *ℤ r) <ℤ p.x → ⊥
+-- an edge that passes is not to the left of the rational point
+not_beyond : (p : RationalPoint) (e : Seg) (r : ℤ) → e.a.x ≤ℤ r → e.b.x ≤ℤ r → Rises p e ⊎ Falls p e → (p.w *ℤ r) <ℤ p.x → ⊥
 not_beyond p e r ha hc (inl h) k =
     clash (side e p) h.left
     (flip (side e p) ((neg_ℤ e.b.x -ℤ neg_ℤ e.a.x) *ℤ (p.y -ℤ p.w *ℤ e.a.y) -ℤ (e.b.y -ℤ e.a.y) *ℤ (neg_ℤ p.x -ℤ p.w *ℤ neg_ℤ e.a.x)) (mirrored p.w p.x p.y e.a.x e.a.y e.b.x e.b.y)
@@ -135,12 +135,12 @@ not_beyond p e r ha hc (inr h) k =
     flip u t v e f h = omega (arith, ints)
 
 -- the heights between which an edge passes, and how far right it must reach
-pub record Between (b : Bounds) (p : Spot) : Type 0 where
+pub record Between (b : Bounds) (p : RationalPoint) : Type 0 where
   pub top : (p.w *ℤ b.top) ≤ℤ p.y
   pub right : p.x ≤ℤ (p.w *ℤ b.right)
   pub bottom : p.y ≤ℤ (p.w *ℤ b.bottom)
 
-pub in_between : (b : Bounds) (p : Spot) (e : Seg) → AreEndsHeld b e → Rises p e ⊎ Falls p e → Between b p
+pub in_between : (b : Bounds) (p : RationalPoint) (e : Seg) → AreEndsHeld b e → Rises p e ⊎ Falls p e → Between b p
 in_between b p e h k = record {
   top = top_by k;
   right = by_lt_z (p.w *ℤ b.right) p.x (λ l. absurd (not_beyond p e b.right h.0.right h.1.right k l)) (λ l. l);
@@ -155,9 +155,9 @@ in_between b p e h k = record {
     bottom_by (inl r) = to_depth p.w b.bottom e.b.y p.y p.positive h.1.bottom r.end
     bottom_by (inr r) = to_depth p.w b.bottom e.a.y p.y p.positive h.0.bottom r.start
 
--- ---- a spot to the left of all corners
--- every edge between a corner at the spot's height or below and a higher one passes
-all_pass : (b : Bounds) (p : Spot) (e : Seg) → AreEndsHeld b e → p.x <ℤ (p.w *ℤ b.left) → passes p e ≡ differ (is_low p e.a) (is_low p e.b)
+-- ---- a rational point to the left of all corners
+-- every edge between a corner at the rational point's height or below and a higher one passes
+all_pass : (b : Bounds) (p : RationalPoint) (e : Seg) → AreEndsHeld b e → p.x <ℤ (p.w *ℤ b.left) → passes p e ≡ differ (is_low p e.a) (is_low p e.b)
 all_pass b p e h k = cases (is_low p e.a) (is_low p e.b) refl refl
   where
     ax : p.x <ℤ (p.w *ℤ e.a.x)
@@ -185,7 +185,7 @@ joined false false true = refl
 joined false false false = refl
 
 -- so the parity of a path is that of its two ends
-pub path_parity : (b : Bounds) (p : Spot) (a : Point) (cs : List Point) → p.x <ℤ (p.w *ℤ b.left) → EachEdge (AreEndsHeld b) (path a cs) → is_odd p (path a cs) ≡ differ (is_low p a) (is_low p (last_of a cs))
+pub path_parity : (b : Bounds) (p : RationalPoint) (a : Point) (cs : List Point) → p.x <ℤ (p.w *ℤ b.left) → EachEdge (AreEndsHeld b) (path a cs) → is_odd p (path a cs) ≡ differ (is_low p a) (is_low p (last_of a cs))
 path_parity b p a [] k h = none (is_low p a)
   where
     none : (l : Bool) → false ≡ differ l l
@@ -196,7 +196,7 @@ path_parity b p a (c ∷ cs) k h =
     ∙ ap (λ l. differ (differ (is_low p a) (is_low p c)) l) (path_parity b p c cs k h.1)
     ∙ joined (is_low p a) (is_low p c) (is_low p (last_of c cs))
 
-even_left : (b : Bounds) (cs : List Point) (p : Spot) → EachCorner (IsHeld b) cs → p.x <ℤ (p.w *ℤ b.left) → is_odd p (outline cs) ≡ true → ⊥
+even_left : (b : Bounds) (cs : List Point) (p : RationalPoint) → EachCorner (IsHeld b) cs → p.x <ℤ (p.w *ℤ b.left) → is_odd p (outline cs) ≡ true → ⊥
 even_left b [] p h k e = cc
 even_left b (c ∷ cs) p h k e = even (is_low p (last_of c cs)) (sym e ∙ path_parity b p (last_of c cs) (c ∷ cs) k (outline_held b (c ∷ cs) h))
   where
@@ -205,7 +205,7 @@ even_left b (c ∷ cs) p h k e = even (is_low p (last_of c cs)) (sym e ∙ path_
     even false h = cc
 
 -- ---- the box of a polygon
-pub inside_in_box : (b : Bounds) (cs : List Point) (p : Spot) → EachCorner (IsHeld b) cs → IsInside cs p → IsInBox b p
+pub inside_in_box : (b : Bounds) (cs : List Point) (p : RationalPoint) → EachCorner (IsHeld b) cs → IsInside cs p → IsInBox b p
 inside_in_box b cs p h (inl o) = edge_with (λ e k on. on_in_box b e p k.0 k.1 on) (outline cs) (outline_held b cs h) o
 inside_in_box b cs p h (inr o) =
     let odd = is_odd_of p (outline cs) o in
@@ -213,16 +213,16 @@ inside_in_box b cs p h (inr o) =
     record { left = by_lt_z p.x (p.w *ℤ b.left) (λ l. absurd (even_left b cs p h l odd)) (λ l. l); top = k.top; right = k.right; bottom = k.bottom }
 
 -- each corner ends an edge
-path_ends : (a : Point) (cs : List Point) → EachCorner (λ k. SomeEdge (λ e. IsOn e (spot_of k)) (path a cs)) cs
+path_ends : (a : Point) (cs : List Point) → EachCorner (λ k. SomeEdge (λ e. IsOn e (rational_point_of k)) (path a cs)) cs
 path_ends a [] = tt
 path_ends a (c ∷ cs) = (inl (end_on (edge a c)), each_corner (λ k h. inr h) cs (path_ends c cs))
 
-corners_inside : (cs : List Point) → EachCorner (λ k. IsInside cs (spot_of k)) cs
+corners_inside : (cs : List Point) → EachCorner (λ k. IsInside cs (rational_point_of k)) cs
 corners_inside [] = tt
 corners_inside (c ∷ cs) = each_corner (λ k h. inl h) (c ∷ cs) (path_ends (last_of c cs) (c ∷ cs))
 
 pub poly_box : (cs : List Point) (b : Bounds) → IsCornerBox cs b → IsLeastBox (IsInside cs) b
 poly_box cs b h = record {
   holds = λ p o. inside_in_box b cs p h.holds o;
-  least = λ c k. box_part cs b c h (each_corner (λ q o. held_of_in_box c q (k (spot_of q) o)) cs (corners_inside cs));
+  least = λ c k. box_part cs b c h (each_corner (λ q o. held_of_in_box c q (k (rational_point_of q) o)) cs (corners_inside cs));
 }

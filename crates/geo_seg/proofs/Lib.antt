@@ -1,4 +1,4 @@
-pub mod Spots
+pub mod RationalPoints
 pub mod LeastGaps
 pub mod FirstExit
 pub mod PointReach

@@ -1,8 +1,8 @@
--- Odd and even counts of the edges that pass to the right of a spot, as a computed parity.
+-- Odd and even counts of the edges that pass to the right of a rational point, as a computed parity.
 use Rattle.std.proofs.Common.{◌≡◌, ℕ, ◌+◌, ◌*◌, Bool, true, false, not, cond, count_by, List, [], ◌∷◌, refl, subst, inl, inr, arith}
 use Rattle.std.proofs.lemmas.List.Recursion.{is_count_by}
 use Rattle.geo_seg.specs.declared.points.Seg.{Seg}
-use Rattle.geo_seg.specs.Points.{Spot}
+use Rattle.geo_seg.specs.Points.{RationalPoint}
 use Rattle.geo_seg.specs.Inside.{passes, IsOdd, SomeEdge}
 
 abbrev pub differ : Bool → Bool → Bool
@@ -10,7 +10,7 @@ differ true b = not b
 differ false b = b
 
 -- an odd number of the edges passes to the right of p
-abbrev pub is_odd : Spot → List Seg → Bool
+abbrev pub is_odd : RationalPoint → List Seg → Bool
 is_odd p [] = false
 is_odd p (e ∷ es) = differ (passes p e) (is_odd p es)
 
@@ -22,11 +22,11 @@ Parity true n = IsOdd n
 Parity false n = IsEven n
 
 -- the count by recursion
-passing_count : Spot → List Seg → ℕ
+passing_count : RationalPoint → List Seg → ℕ
 passing_count p [] = 0
 passing_count p (e ∷ es) = cond (passes p e) (1 + passing_count p es) (passing_count p es)
 
-passing_count-count_by : (p : Spot) (es : List Seg) → passing_count p es ≡ count_by (passes p) es
+passing_count-count_by : (p : RationalPoint) (es : List Seg) → passing_count p es ≡ count_by (passes p) es
 unfolding passing_count
 passing_count-count_by p es = is_count_by (passing_count p) (passes p) refl (λ e fs. refl) es
 
@@ -36,29 +36,29 @@ counted_one true false n h = (h.0, omega (arith, h.1))
 counted_one false true n h = h
 counted_one false false n h = h
 
-counted_up : (p : Spot) (es : List Seg) → Parity (is_odd p es) (passing_count p es)
+counted_up : (p : RationalPoint) (es : List Seg) → Parity (is_odd p es) (passing_count p es)
 unfolding passing_count
 counted_up p [] = (0, refl)
 counted_up p (e ∷ es) = counted_one (passes p e) (is_odd p es) (passing_count p es) (counted_up p es)
 
-counted : (p : Spot) (es : List Seg) → Parity (is_odd p es) (count_by (passes p) es)
+counted : (p : RationalPoint) (es : List Seg) → Parity (is_odd p es) (count_by (passes p) es)
 counted p es = subst (λ n. Parity (is_odd p es) n) (passing_count-count_by p es) (counted_up p es)
 
 not_both : (n j k : ℕ) → n ≡ 2 * j + 1 → n ≡ 2 * k → ⊥
 not_both n j k h e = omega (arith, h, e)
 
-pub is_odd_of : (p : Spot) (es : List Seg) → IsOdd (count_by (passes p) es) → is_odd p es ≡ true
+pub is_odd_of : (p : RationalPoint) (es : List Seg) → IsOdd (count_by (passes p) es) → is_odd p es ≡ true
 is_odd_of p es h = by_parity (is_odd p es) (counted p es)
   where
     by_parity : (b : Bool) → Parity b (count_by (passes p) es) → b ≡ true
     by_parity true k = refl
     by_parity false k = absurd (not_both (count_by (passes p) es) h.0 k.0 h.1 k.1)
 
-pub odd_of_is_odd : (p : Spot) (es : List Seg) → is_odd p es ≡ true → IsOdd (count_by (passes p) es)
+pub odd_of_is_odd : (p : RationalPoint) (es : List Seg) → is_odd p es ≡ true → IsOdd (count_by (passes p) es)
 odd_of_is_odd p es e = subst (λ b. Parity b (count_by (passes p) es)) e (counted p es)
 
 -- some edge passes
-pub some_passes : (p : Spot) (es : List Seg) → is_odd p es ≡ true → SomeEdge (λ e. passes p e ≡ true) es
+pub some_passes : (p : RationalPoint) (es : List Seg) → is_odd p es ≡ true → SomeEdge (λ e. passes p e ≡ true) es
 some_passes p [] h = absurd (no h)
   where
     no : false ≡ true → ⊥

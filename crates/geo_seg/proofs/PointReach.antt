@@ -6,10 +6,10 @@ use Rattle.int_algebra.proofs.Ring.{var, num, ◌⊕◌, ◌⊖◌, ◌⊗◌, s
 use Rattle.int_algebra.proofs.Order.{product-pos, Below, scale_Below, unscale_Below, le-Below, not_lt}
 use Rattle.geo_seg.specs.declared.points.Point.{Point}
 use Rattle.geo_seg.specs.declared.points.Seg.{Seg}
-use Rattle.geo_seg.specs.Points.{Spot, IsOn, spot_of, IsAt}
+use Rattle.geo_seg.specs.Points.{RationalPoint, IsOn, rational_point_of, IsAt}
 use Rattle.geo_seg.specs.Nearer.{square, squared_gap, squared_limit, AreApart, AreWithin}
 use Rattle.geo_seg.specs.Gap.{between, squared_offset, IsLeastGap}
-use Rattle.geo_seg.proofs.Spots.{IsFraction, fraction_gap, spots_to_fractions, fractions_to_spots, Below_along}
+use Rattle.geo_seg.proofs.RationalPoints.{IsFraction, fraction_gap, rational_points_to_fractions, fractions_to_rational_points, Below_along}
 
 pub record PointReach (r : Bool) (d : ℤ) (p : Point) (s : Seg) : Type 0 where
   pub part : ℤ
@@ -19,25 +19,25 @@ pub record PointReach (r : Bool) (d : ℤ) (p : Point) (s : Seg) : Type 0 where
   pub positive : pos 0 <ℤ whole
   pub below : Below r (squared_offset p s whole part) (square (d *ℤ whole))
 
--- the spot of s at part / whole
-abbrev pub spot_at : (s : Seg) (whole part : ℤ) → pos 0 <ℤ whole → Spot
-spot_at s whole part h = record { x = between s.a.x s.b.x whole part; y = between s.a.y s.b.y whole part; w = whole; positive = h }
+-- the rational point of s at part / whole
+abbrev pub rational_point_at : (s : Seg) (whole part : ℤ) → pos 0 <ℤ whole → RationalPoint
+rational_point_at s whole part h = record { x = between s.a.x s.b.x whole part; y = between s.a.y s.b.y whole part; w = whole; positive = h }
 
-pub spot_at_IsOn : (s : Seg) (whole part : ℤ) (h : pos 0 <ℤ whole) → pos 0 ≤ℤ part → part ≤ℤ whole → IsOn s (spot_at s whole part h)
-spot_at_IsOn s whole part h h0 h1 = record { part = part; whole = whole; starts = h0; ends = h1; positive = h; along_x = refl; along_y = refl }
+pub rational_point_at_IsOn : (s : Seg) (whole part : ℤ) (h : pos 0 <ℤ whole) → pos 0 ≤ℤ part → part ≤ℤ whole → IsOn s (rational_point_at s whole part h)
+rational_point_at_IsOn s whole part h h0 h1 = record { part = part; whole = whole; starts = h0; ends = h1; positive = h; along_x = refl; along_y = refl }
 
-pub IsOn-IsFraction : (s : Seg) (q : Spot) (o : IsOn s q) → IsFraction q o.whole (between s.a.x s.b.x o.whole o.part) (between s.a.y s.b.y o.whole o.part)
+pub IsOn-IsFraction : (s : Seg) (q : RationalPoint) (o : IsOn s q) → IsFraction q o.whole (between s.a.x s.b.x o.whole o.part) (between s.a.y s.b.y o.whole o.part)
 IsOn-IsFraction s q o = record { positive = o.positive; at_x = o.along_x; at_y = o.along_y }
 
-pub spot_at-IsFraction : (s : Seg) (whole part : ℤ) (h : pos 0 <ℤ whole) → IsFraction (spot_at s whole part h) whole (between s.a.x s.b.x whole part) (between s.a.y s.b.y whole part)
-spot_at-IsFraction s whole part h = record { positive = h; at_x = refl; at_y = refl }
+pub rational_point_at-IsFraction : (s : Seg) (whole part : ℤ) (h : pos 0 <ℤ whole) → IsFraction (rational_point_at s whole part h) whole (between s.a.x s.b.x whole part) (between s.a.y s.b.y whole part)
+rational_point_at-IsFraction s whole part h = record { positive = h; at_x = refl; at_y = refl }
 
-pub IsAt-IsFraction : (p : Point) (o : Spot) → IsAt p o → IsFraction o (pos 1) p.x p.y
+pub IsAt-IsFraction : (p : Point) (o : RationalPoint) → IsAt p o → IsFraction o (pos 1) p.x p.y
 IsAt-IsFraction p o h = record { positive = record { lt = tt }; at_x = one_mul_z o.x ∙ h.at_x; at_y = one_mul_z o.y ∙ h.at_y }
 
-pub spot_of-IsAt : (p : Point) → IsAt p (spot_of p)
-unfolding spot_of
-spot_of-IsAt p = record { at_x = sym (one_mul_z p.x); at_y = sym (one_mul_z p.y) }
+pub rational_point_of-IsAt : (p : Point) → IsAt p (rational_point_of p)
+unfolding rational_point_of
+rational_point_of-IsAt p = record { at_x = sym (one_mul_z p.x); at_y = sym (one_mul_z p.y) }
 
 one_offset : (x x' y y' n : ℤ) → fraction_gap (pos 1) x y n x' y' ≡ square (n *ℤ x -ℤ x') +ℤ square (n *ℤ y -ℤ y')
 one_offset x x' y y' n =
@@ -47,8 +47,8 @@ one_offset x x' y y' n =
 one_limit : (d n : ℤ) → square (d *ℤ (pos 1 *ℤ n)) ≡ square (d *ℤ n)
 one_limit d n = ring (d ∷ n ∷ []) (sq (var 0 ⊗ (num (pos 1) ⊗ var 1))) (sq (var 0 ⊗ var 1)) tt
 
-pub spot_to_reach : (r : Bool) (d : ℤ) (p : Point) (s : Seg) (o q : Spot) → IsAt p o → IsOn s q → Below r (squared_gap o q) (squared_limit d o q) → PointReach r d p s
-spot_to_reach r d p s o q at on h =
+pub rational_point_to_reach : (r : Bool) (d : ℤ) (p : Point) (s : Seg) (o q : RationalPoint) → IsAt p o → IsOn s q → Below r (squared_gap o q) (squared_limit d o q) → PointReach r d p s
+rational_point_to_reach r d p s o q at on h =
     let x' = between s.a.x s.b.x on.whole on.part in
     let y' = between s.a.y s.b.y on.whole on.part in
     record {
@@ -59,15 +59,15 @@ spot_to_reach r d p s o q at on h =
       positive = on.positive;
       below = Below_along r (fraction_gap (pos 1) p.x p.y on.whole x' y') (squared_offset p s on.whole on.part) (square (d *ℤ (pos 1 *ℤ on.whole))) (square (d *ℤ on.whole))
           (one_offset p.x x' p.y y' on.whole) (one_limit d on.whole)
-          (spots_to_fractions r d o q (pos 1) p.x p.y on.whole x' y' (IsAt-IsFraction p o at) (IsOn-IsFraction s q on) h);
+          (rational_points_to_fractions r d o q (pos 1) p.x p.y on.whole x' y' (IsAt-IsFraction p o at) (IsOn-IsFraction s q on) h);
     }
 
-pub reach_to_spot : (r : Bool) (d : ℤ) (p : Point) (s : Seg) (c : PointReach r d p s) → Below r (squared_gap (spot_of p) (spot_at s c.whole c.part c.positive)) (squared_limit d (spot_of p) (spot_at s c.whole c.part c.positive))
-reach_to_spot r d p s c =
-    let q = spot_at s c.whole c.part c.positive in
+pub reach_to_rational_point : (r : Bool) (d : ℤ) (p : Point) (s : Seg) (c : PointReach r d p s) → Below r (squared_gap (rational_point_of p) (rational_point_at s c.whole c.part c.positive)) (squared_limit d (rational_point_of p) (rational_point_at s c.whole c.part c.positive))
+reach_to_rational_point r d p s c =
+    let q = rational_point_at s c.whole c.part c.positive in
     let x' = between s.a.x s.b.x c.whole c.part in
     let y' = between s.a.y s.b.y c.whole c.part in
-    fractions_to_spots r d (spot_of p) q (pos 1) p.x p.y c.whole x' y' (IsAt-IsFraction p (spot_of p) (spot_of-IsAt p)) (spot_at-IsFraction s c.whole c.part c.positive)
+    fractions_to_rational_points r d (rational_point_of p) q (pos 1) p.x p.y c.whole x' y' (IsAt-IsFraction p (rational_point_of p) (rational_point_of-IsAt p)) (rational_point_at-IsFraction s c.whole c.part c.positive)
     (Below_along r (squared_offset p s c.whole c.part) (fraction_gap (pos 1) p.x p.y c.whole x' y') (square (d *ℤ c.whole)) (square (d *ℤ (pos 1 *ℤ c.whole)))
     (sym (one_offset p.x x' p.y y' c.whole)) (sym (one_limit d c.whole)) c.below)
 
@@ -102,16 +102,16 @@ reach_to_gap r d p s top under g c =
 
 -- ---- what the functions answer
 pub within_of_reach : (d : ℤ) (p : Point) (s : Seg) → PointReach false d p s → AreWithin (IsAt p) (IsOn s) d
-within_of_reach d p s c = record { from = spot_of p; to = spot_at s c.whole c.part c.positive; of_first = spot_of-IsAt p; of_second = spot_at_IsOn s c.whole c.part c.positive c.starts c.ends; within = reach_to_spot false d p s c }
+within_of_reach d p s c = record { from = rational_point_of p; to = rational_point_at s c.whole c.part c.positive; of_first = rational_point_of-IsAt p; of_second = rational_point_at_IsOn s c.whole c.part c.positive c.starts c.ends; within = reach_to_rational_point false d p s c }
 
 pub reach_of_within : (d : ℤ) (p : Point) (s : Seg) → AreWithin (IsAt p) (IsOn s) d → PointReach false d p s
-reach_of_within d p s h = spot_to_reach false d p s h.from h.to h.of_first h.of_second h.within
+reach_of_within d p s h = rational_point_to_reach false d p s h.from h.to h.of_first h.of_second h.within
 
 pub apart_of_no_reach : (d : ℤ) (p : Point) (s : Seg) → (PointReach true d p s → ⊥) → AreApart (IsAt p) (IsOn s) d
-apart_of_no_reach d p s h = record { apart = λ o q at on n. h (spot_to_reach true d p s o q at on n) }
+apart_of_no_reach d p s h = record { apart = λ o q at on n. h (rational_point_to_reach true d p s o q at on n) }
 
 pub no_reach_of_apart : (d : ℤ) (p : Point) (s : Seg) → AreApart (IsAt p) (IsOn s) d → PointReach true d p s → ⊥
-no_reach_of_apart d p s h c = h.apart (spot_of p) (spot_at s c.whole c.part c.positive) (spot_of-IsAt p) (spot_at_IsOn s c.whole c.part c.positive c.starts c.ends) (reach_to_spot true d p s c)
+no_reach_of_apart d p s h c = h.apart (rational_point_of p) (rational_point_at s c.whole c.part c.positive) (rational_point_of-IsAt p) (rational_point_at_IsOn s c.whole c.part c.positive c.starts c.ends) (reach_to_rational_point true d p s c)
 
 pub within_by_gap : (p : Point) (s : Seg) (d top under : ℤ) → IsLeastGap p s top under → top ≤ℤ (square d *ℤ under) → AreWithin (IsAt p) (IsOn s) d
 within_by_gap p s d top under g h = within_of_reach d p s (gap_to_reach false d p s top under g h)

@@ -1,4 +1,4 @@
--- A list whose elements are written anew one by one, from the first on.
+-- A list whose elements are rewritten one by one, from the first on.
 use Rattle.std.proofs.Common.{◌≡◌, ℕ, zero, suc, ◌+◌, ◌<◌, ◌≤◌, List, [], ◌∷◌, length, get_or, set, sym, ap, subst, arith, add-one}
 use Rattle.std.specs.List.{AllZip}
 

@@ -5,9 +5,9 @@ use Rattle.geo_seg.specs.declared.points.Point.{Point}
 use Rattle.geo_seg.specs.declared.points.Seg.{Seg}
 use Rattle.geo_seg.specs.declared.boxes.Bounds.{Bounds}
 use Rattle.geo_seg.specs.declared.frames.Frame.{Frame}
-use Rattle.geo_seg.specs.Corners.{IsCornerBox}
+use Rattle.geo_seg.specs.PolygonCorners.{IsCornerBox}
 use Rattle.geo_seg.specs.Inside.{edge, path, last_of, outline}
-use Rattle.geo_seg.specs.Runs.{sides_of, IsRunBox, AreRuns}
+use Rattle.geo_seg.specs.RunBoxes.{sides_of, IsRunBox, AreRuns}
 use Rattle.geo_seg.proofs.CornerBoxes.{box_fits}
 use Rattle.geo_seg.proofs.Enclosed.{path_held}
 

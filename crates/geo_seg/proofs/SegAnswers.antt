@@ -4,20 +4,20 @@ use Rattle.std.proofs.lemmas.Int.{ints}
 use Rattle.int_algebra.proofs.Ring.{var, num, ◌⊕◌, ◌⊖◌, ◌⊗◌, sq, fact, ring, ring_by}
 use Rattle.int_algebra.proofs.Order.{lt-le, product-pos, square-nonneg, square_zero, sum_zero, same_by_scale}
 use Rattle.geo_seg.specs.declared.points.Seg.{Seg}
-use Rattle.geo_seg.specs.Points.{Spot, IsAt, IsOn}
+use Rattle.geo_seg.specs.Points.{RationalPoint, IsAt, IsOn}
 use Rattle.geo_seg.specs.Nearer.{square, squared_gap, squared_limit, AreApart, AreWithin, DoMeet}
 use Rattle.geo_seg.specs.Gap.{IsCrossing, IsEndReached, AreEndsApart}
-use Rattle.geo_seg.proofs.PointReach.{PointReach, spot_at, spot_at_IsOn, within_of_reach, reach_of_within, apart_of_no_reach, no_reach_of_apart}
-use Rattle.geo_seg.proofs.SegReach.{SegReach, spots_to_reach, reach_to_spots, Near, crossing, start_a, end_a, start_b, end_b, near_by_reach, crossing_reach, start_a_reach, end_a_reach, start_b_reach, end_b_reach}
+use Rattle.geo_seg.proofs.PointReach.{PointReach, rational_point_at, rational_point_at_IsOn, within_of_reach, reach_of_within, apart_of_no_reach, no_reach_of_apart}
+use Rattle.geo_seg.proofs.SegReach.{SegReach, rational_points_to_reach, reach_to_rational_points, Near, crossing, start_a, end_a, start_b, end_b, near_by_reach, crossing_reach, start_a_reach, end_a_reach, start_b_reach, end_b_reach}
 
 -- ---- within
 reached_by : (d : ℤ) (a b : Seg) → SegReach false d a b → AreWithin (IsOn a) (IsOn b) d
 reached_by d a b c = record {
-  from = spot_at a c.whole c.part_a c.framed.positive;
-  to = spot_at b c.whole c.part_b c.framed.positive;
-  of_first = spot_at_IsOn a c.whole c.part_a c.framed.positive c.framed.starts_a c.framed.ends_a;
-  of_second = spot_at_IsOn b c.whole c.part_b c.framed.positive c.framed.starts_b c.framed.ends_b;
-  within = reach_to_spots false d a b c;
+  from = rational_point_at a c.whole c.part_a c.framed.positive;
+  to = rational_point_at b c.whole c.part_b c.framed.positive;
+  of_first = rational_point_at_IsOn a c.whole c.part_a c.framed.positive c.framed.starts_a c.framed.ends_a;
+  of_second = rational_point_at_IsOn b c.whole c.part_b c.framed.positive c.framed.starts_b c.framed.ends_b;
+  within = reach_to_rational_points false d a b c;
 }
 
 pub reached_by_crossing : (d : ℤ) (a b : Seg) → IsCrossing a b → AreWithin (IsOn a) (IsOn b) d
@@ -47,7 +47,7 @@ pub apart_by : (d : ℤ) (a b : Seg) → pos 0 ≤ℤ d → ¬ (IsCrossing a b) 
 apart_by d a b hd n0 h1 h2 h3 h4 = record {
   apart = λ p q o k n.
       not_near true d a b n0 (no_reach_of_apart d a.a b h1) (no_reach_of_apart d a.b b h2) (no_reach_of_apart d b.a a h3) (no_reach_of_apart d b.b a h4)
-      (near_by_reach true d a b hd (spots_to_reach true d a b p q o k n));
+      (near_by_reach true d a b hd (rational_points_to_reach true d a b p q o k n));
 }
 
 not_negative_square : (x y z : ℤ) → (square x +ℤ square y) <ℤ (pos 0 *ℤ z) → ⊥
@@ -61,10 +61,10 @@ pub apart_zero : (a b : Seg) → AreApart (IsOn a) (IsOn b) (pos 0)
 apart_zero a b = record { apart = λ p q o k n. not_negative_square (p.x *ℤ q.w -ℤ q.x *ℤ p.w) (p.y *ℤ q.w -ℤ q.y *ℤ p.w) (p.w *ℤ q.w *ℤ (pos 0 *ℤ p.w *ℤ q.w)) (subst (λ (z : ℤ). squared_gap p q <ℤ z) (ring (p.w ∷ q.w ∷ []) (sq (num (pos 0) ⊗ var 0 ⊗ var 1)) (num (pos 0) ⊗ (var 0 ⊗ var 1 ⊗ (num (pos 0) ⊗ var 0 ⊗ var 1))) tt) n) }
 
 not_apart_by : (d : ℤ) (a b : Seg) → SegReach true d a b → AreApart (IsOn a) (IsOn b) d → ⊥
-not_apart_by d a b c h = h.apart (spot_at a c.whole c.part_a c.framed.positive) (spot_at b c.whole c.part_b c.framed.positive)
-    (spot_at_IsOn a c.whole c.part_a c.framed.positive c.framed.starts_a c.framed.ends_a)
-    (spot_at_IsOn b c.whole c.part_b c.framed.positive c.framed.starts_b c.framed.ends_b)
-    (reach_to_spots true d a b c)
+not_apart_by d a b c h = h.apart (rational_point_at a c.whole c.part_a c.framed.positive) (rational_point_at b c.whole c.part_b c.framed.positive)
+    (rational_point_at_IsOn a c.whole c.part_a c.framed.positive c.framed.starts_a c.framed.ends_a)
+    (rational_point_at_IsOn b c.whole c.part_b c.framed.positive c.framed.starts_b c.framed.ends_b)
+    (reach_to_rational_points true d a b c)
 
 pub not_apart_by_crossing : (d : ℤ) (a b : Seg) → pos 0 <ℤ d → IsCrossing a b → ¬ (AreApart (IsOn a) (IsOn b) d)
 not_apart_by_crossing d a b hd h = not_apart_by d a b (crossing_reach true d a b (λ t k. let m = product-pos d t hd k in product-pos (d *ℤ t) (d *ℤ t) m m) h)
@@ -98,7 +98,7 @@ met_of_reached a b h =
     let z : squared_gap p q ≤ℤ pos 0 = subst (λ (v : ℤ). squared_gap p q ≤ℤ v) (no_limit p.w q.w) h.within in
     let zs = sum_zero (square gx) (square gy) (square-nonneg gx) (square-nonneg gy) z in
     record {
-      spot = p;
+      rational_point = p;
       of_first = h.of_first;
       of_second = record {
         part = o.part;
@@ -111,16 +111,16 @@ met_of_reached a b h =
       };
     }
 
-no_gap : (p : Spot) → squared_gap p p ≡ pos 0
+no_gap : (p : RationalPoint) → squared_gap p p ≡ pos 0
 no_gap p = ring (p.x ∷ p.y ∷ p.w ∷ []) (sq (var 0 ⊗ var 2 ⊖ var 0 ⊗ var 2) ⊕ sq (var 1 ⊗ var 2 ⊖ var 1 ⊗ var 2)) (num (pos 0)) tt
 
 pub reached_of_met : (a b : Seg) → DoMeet (IsOn a) (IsOn b) → AreWithin (IsOn a) (IsOn b) (pos 0)
 reached_of_met a b h = record {
-  from = h.spot;
-  to = h.spot;
+  from = h.rational_point;
+  to = h.rational_point;
   of_first = h.of_first;
   of_second = h.of_second;
-  within = subst (λ (v : ℤ). v ≤ℤ squared_limit (pos 0) h.spot h.spot) (sym (no_gap h.spot)) (square-nonneg (pos 0 *ℤ h.spot.w *ℤ h.spot.w));
+  within = subst (λ (v : ℤ). v ≤ℤ squared_limit (pos 0) h.rational_point h.rational_point) (sym (no_gap h.rational_point)) (square-nonneg (pos 0 *ℤ h.rational_point.w *ℤ h.rational_point.w));
 }
 
 -- ---- the two theorems, in the form of the code
@@ -139,7 +139,7 @@ reached_of d a b (inr (inr (inl h))) = reached_by_start_b d a b h
 reached_of d a b (inr (inr (inr h))) = reached_by_end_b d a b h
 
 pub reached_where : (d : ℤ) (a b : Seg) → pos 0 ≤ℤ d → AreWithin (IsOn a) (IsOn b) d ↔ (IsCrossing a b ⊎ (IsEndReached a b d ⊎ IsEndReached b a d))
-reached_where d a b hd = (λ h. by_reach d a b (near_by_reach false d a b hd (spots_to_reach false d a b h.from h.to h.of_first h.of_second h.within)), reached_of d a b)
+reached_where d a b hd = (λ h. by_reach d a b (near_by_reach false d a b hd (rational_points_to_reach false d a b h.from h.to h.of_first h.of_second h.within)), reached_of d a b)
 
 pub apart_where : (d : ℤ) (a b : Seg) → pos 0 <ℤ d → AreApart (IsOn a) (IsOn b) d ↔ (¬ (IsCrossing a b) × AreEndsApart a b d × AreEndsApart b a d)
 apart_where d a b hd = (

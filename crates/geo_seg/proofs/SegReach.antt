@@ -4,11 +4,11 @@ use Rattle.std.proofs.lemmas.Int.{ints}
 use Rattle.int_algebra.proofs.Ring.{Expr, var, num, ◌⊕◌, ◌⊖◌, ◌⊗◌, minus, sq, fact, ring, ring_by}
 use Rattle.int_algebra.proofs.Order.{product-pos, product-nonneg, square-nonneg, sum-pos, Below, Below-le, scale_Below, le_by, le_gap, lt-le, scale_le, by_sign, le_refl}
 use Rattle.geo_seg.specs.declared.points.Seg.{Seg}
-use Rattle.geo_seg.specs.Points.{Spot, IsOn}
+use Rattle.geo_seg.specs.Points.{RationalPoint, IsOn}
 use Rattle.geo_seg.specs.Nearer.{square, squared_gap, squared_limit}
 use Rattle.geo_seg.specs.Gap.{between, squared_offset, turn, turn_a, turn_b, IsFramed, IsCrossing}
-use Rattle.geo_seg.proofs.Spots.{fraction_gap, spots_to_fractions, fractions_to_spots, Below_along}
-use Rattle.geo_seg.proofs.PointReach.{PointReach, spot_at, spot_at-IsFraction, IsOn-IsFraction}
+use Rattle.geo_seg.proofs.RationalPoints.{fraction_gap, rational_points_to_fractions, fractions_to_rational_points, Below_along}
+use Rattle.geo_seg.proofs.PointReach.{PointReach, rational_point_at, rational_point_at-IsFraction, IsOn-IsFraction}
 use Rattle.geo_seg.proofs.FirstExit.{Course, AllEnd, AllAt, SomeAt, Exit, first_exit}
 
 -- whole times the step from the point of b at part_b / whole to the point of a at part_a / whole
@@ -25,7 +25,7 @@ pub record SegReach (r : Bool) (d : ℤ) (a b : Seg) : Type 0 where
   pub framed : IsFramed whole part_a part_b
   pub below : Below r (squared_step a b whole part_a part_b) (square (d *ℤ whole))
 
--- ---- to the spots and back
+-- ---- to the rational points and back
 joint : (a0 a1 b0 b1 m i n j : ℤ) → n *ℤ between a0 a1 m i -ℤ m *ℤ between b0 b1 n j ≡ step a0 a1 b0 b1 (m *ℤ n) (i *ℤ n) (m *ℤ j)
 joint a0 a1 b0 b1 m i n j =
     let a = var 0 in let a' = var 1 in let b = var 2 in let b' = var 3 in let m' = var 4 in let i' = var 5 in let n' = var 6 in let j' = var 7 in
@@ -39,8 +39,8 @@ both_squares x x' y y' e f = ap (λ z. square z +ℤ square y) e ∙ ap (λ z. s
 scale_le_right : (c a b : ℤ) → pos 0 ≤ℤ c → a ≤ℤ b → (a *ℤ c) ≤ℤ (b *ℤ c)
 scale_le_right c a b h k = le_by (a *ℤ c) (b *ℤ c) (c *ℤ (b -ℤ a)) (ring (a ∷ b ∷ c ∷ []) (var 1 ⊗ var 2 ⊖ var 0 ⊗ var 2) (var 2 ⊗ (var 1 ⊖ var 0)) tt) (product-nonneg c (b -ℤ a) h (le_gap a b k))
 
-pub spots_to_reach : (r : Bool) (d : ℤ) (a b : Seg) (p q : Spot) → IsOn a p → IsOn b q → Below r (squared_gap p q) (squared_limit d p q) → SegReach r d a b
-spots_to_reach r d a b p q o k h =
+pub rational_points_to_reach : (r : Bool) (d : ℤ) (a b : Seg) (p q : RationalPoint) → IsOn a p → IsOn b q → Below r (squared_gap p q) (squared_limit d p q) → SegReach r d a b
+rational_points_to_reach r d a b p q o k h =
     let m = o.whole in let i = o.part in let n = k.whole in let j = k.part in
     let m0 = lt-le (pos 0) m o.positive in let n0 = lt-le (pos 0) n k.positive in
     let x = between a.a.x a.b.x m i in let y = between a.a.y a.b.y m i in
@@ -59,7 +59,7 @@ spots_to_reach r d a b p q o k h =
       below = Below_along r (fraction_gap m x y n x' y') (squared_step a b (m *ℤ n) (i *ℤ n) (m *ℤ j)) (square (d *ℤ (m *ℤ n))) (square (d *ℤ (m *ℤ n)))
           (both_squares (n *ℤ x -ℤ m *ℤ x') (step a.a.x a.b.x b.a.x b.b.x (m *ℤ n) (i *ℤ n) (m *ℤ j)) (n *ℤ y -ℤ m *ℤ y') (step a.a.y a.b.y b.a.y b.b.y (m *ℤ n) (i *ℤ n) (m *ℤ j))
           (joint a.a.x a.b.x b.a.x b.b.x m i n j) (joint a.a.y a.b.y b.a.y b.b.y m i n j)) refl
-          (spots_to_fractions r d p q m x y n x' y' (IsOn-IsFraction a p o) (IsOn-IsFraction b q k) h);
+          (rational_points_to_fractions r d p q m x y n x' y' (IsOn-IsFraction a p o) (IsOn-IsFraction b q k) h);
     }
 
 pull_out : (t x x' y y' : ℤ) → square t *ℤ (square (x -ℤ x') +ℤ square (y -ℤ y')) ≡ fraction_gap t x y t x' y'
@@ -70,12 +70,12 @@ pull_out t x x' y y' =
 pull_limit : (d t : ℤ) → square t *ℤ square (d *ℤ t) ≡ square (d *ℤ (t *ℤ t))
 pull_limit d t = ring (d ∷ t ∷ []) (sq (var 1) ⊗ sq (var 0 ⊗ var 1)) (sq (var 0 ⊗ (var 1 ⊗ var 1))) tt
 
-pub reach_to_spots : (r : Bool) (d : ℤ) (a b : Seg) (c : SegReach r d a b) → Below r (squared_gap (spot_at a c.whole c.part_a c.framed.positive) (spot_at b c.whole c.part_b c.framed.positive)) (squared_limit d (spot_at a c.whole c.part_a c.framed.positive) (spot_at b c.whole c.part_b c.framed.positive))
-reach_to_spots r d a b c =
+pub reach_to_rational_points : (r : Bool) (d : ℤ) (a b : Seg) (c : SegReach r d a b) → Below r (squared_gap (rational_point_at a c.whole c.part_a c.framed.positive) (rational_point_at b c.whole c.part_b c.framed.positive)) (squared_limit d (rational_point_at a c.whole c.part_a c.framed.positive) (rational_point_at b c.whole c.part_b c.framed.positive))
+reach_to_rational_points r d a b c =
     let t = c.whole in let i = c.part_a in let j = c.part_b in let h = c.framed.positive in
     let x = between a.a.x a.b.x t i in let y = between a.a.y a.b.y t i in
     let x' = between b.a.x b.b.x t j in let y' = between b.a.y b.b.y t j in
-    fractions_to_spots r d (spot_at a t i h) (spot_at b t j h) t x y t x' y' (spot_at-IsFraction a t i h) (spot_at-IsFraction b t j h)
+    fractions_to_rational_points r d (rational_point_at a t i h) (rational_point_at b t j h) t x y t x' y' (rational_point_at-IsFraction a t i h) (rational_point_at-IsFraction b t j h)
     (Below_along r (square t *ℤ squared_step a b t i j) (fraction_gap t x y t x' y') (square t *ℤ square (d *ℤ t)) (square (d *ℤ (t *ℤ t)))
     (pull_out t x x' y y') (pull_limit d t)
     (scale_Below r (square t) (squared_step a b t i j) (square (d *ℤ t)) (product-pos t t h h) c.below))

@@ -14,9 +14,9 @@ use Rattle.geo_seg.specs.declared.points.Seg.{Seg}
 use Rattle.geo_seg.specs.declared.boxes.Bounds.{Bounds}
 use Rattle.geo_seg.specs.declared.frames.Frame.{Frame}
 use Rattle.geo_seg.specs.Boxes.{FitsWithin}
-use Rattle.geo_seg.specs.Corners.{IsHeld}
+use Rattle.geo_seg.specs.PolygonCorners.{IsHeld}
 use Rattle.geo_seg.specs.Inside.{path, last_of, outline, EachEdge}
-use Rattle.geo_seg.specs.Runs.{sides_of, AreEndsHeld, AreRuns}
+use Rattle.geo_seg.specs.RunBoxes.{sides_of, AreEndsHeld, AreRuns}
 use Rattle.geo_seg.specs.Shifts.{IsShiftedPoint, is_coordinate, point_stays}
 use Rattle.geo_seg.specs.ShiftedRuns.{in_range_of, IsShiftedFrame}
 

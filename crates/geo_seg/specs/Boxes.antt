@@ -1,10 +1,10 @@
 -- Boxes along the axes. As on a screen y grows downward, so the top of a box is its least y.
 use Rattle.std.specs.Prelude.{pos, ℤ, neg_ℤ, ◌+ℤ◌, ◌-ℤ◌, ◌*ℤ◌, ◌≤ℤ◌, Bool, ◌&&◌, int_le, ◌⊎◌}
 use Rattle.geo_seg.specs.declared.boxes.Bounds.{Bounds}
-use Rattle.geo_seg.specs.Points.{Spot}
+use Rattle.geo_seg.specs.Points.{RationalPoint}
 
--- the spot lies in the box, its sides included
-pub record IsInBox (b : Bounds) (p : Spot) : Type 0 where
+-- the rational point lies in the box, its sides included
+pub record IsInBox (b : Bounds) (p : RationalPoint) : Type 0 where
   pub left : (p.w *ℤ b.left) ≤ℤ p.x
   pub top : (p.w *ℤ b.top) ≤ℤ p.y
   pub right : p.x ≤ℤ (p.w *ℤ b.right)
@@ -18,9 +18,9 @@ pub record IsPartOf (b c : Bounds) : Type 0 where
   pub bottom : b.bottom ≤ℤ c.bottom
 
 -- b holds all points of P, and lies in each box that does
-pub record IsLeastBox (P : Spot → Type 0) (b : Bounds) : Type 0 where
-  pub holds : (p : Spot) → P p → IsInBox b p
-  pub least : (c : Bounds) → ((p : Spot) → P p → IsInBox c p) → IsPartOf b c
+pub record IsLeastBox (P : RationalPoint → Type 0) (b : Bounds) : Type 0 where
+  pub holds : (p : RationalPoint) → P p → IsInBox b p
+  pub least : (c : Bounds) → ((p : RationalPoint) → P p → IsInBox c p) → IsPartOf b c
 
 -- the box with each side moved out by r
 abbrev pub widened : Bounds → ℤ → Bounds

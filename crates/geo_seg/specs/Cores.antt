@@ -4,11 +4,11 @@ use Rattle.geo_seg.specs.declared.shapes.Core.{Core}
 use Rattle.geo_seg.specs.declared.shapes.Core.TheVariants.{Line, Area}
 use Rattle.geo_seg.specs.declared.shapes.Shape.{Shape}
 use Rattle.geo_seg.specs.declared.boxes.Bounds.{Bounds}
-use Rattle.geo_seg.specs.Points.{Spot, IsOn}
+use Rattle.geo_seg.specs.Points.{RationalPoint, IsOn}
 use Rattle.geo_seg.specs.Inside.{IsInside}
 use Rattle.geo_seg.specs.Boxes.{IsLeastBox, widened}
 
-abbrev pub IsPointOf : Core → Spot → Type 0
+abbrev pub IsPointOf : Core → RationalPoint → Type 0
 IsPointOf (Line s) p = IsOn s p
 IsPointOf (Area corners) p = IsInside corners p
 

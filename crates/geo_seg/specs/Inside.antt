@@ -4,7 +4,7 @@ use Rattle.std.specs.Prelude.{◌≡◌, ℕ, ◌+◌, ◌*◌, ℤ, pos, ◌-�
 use Rattle.std.specs.Int.Signed.{le_z, lt_z}
 use Rattle.geo_seg.specs.declared.points.Point.{Point}
 use Rattle.geo_seg.specs.declared.points.Seg.{Seg}
-use Rattle.geo_seg.specs.Points.{Spot, IsOn}
+use Rattle.geo_seg.specs.Points.{RationalPoint, IsOn}
 
 -- the edge from a to b
 abbrev pub edge : Point → Point → Seg
@@ -35,12 +35,12 @@ EachEdge P [] = Unit {0}
 EachEdge P (e ∷ es) = P e × EachEdge P es
 
 -- the y of the corner c is at most that of p
-abbrev pub is_low : Spot → Point → Bool
+abbrev pub is_low : RationalPoint → Point → Bool
 is_low p c = le_z (p.w *ℤ c.y) p.y
 
 -- with y upward: above 0 where p lies to the left of the line through the edge, seen from its start to its end, and below 0
 -- where it lies to the right
-abbrev pub side : Seg → Spot → ℤ
+abbrev pub side : Seg → RationalPoint → ℤ
 side e p = (e.b.x -ℤ e.a.x) *ℤ (p.y -ℤ p.w *ℤ e.a.y) -ℤ (e.b.y -ℤ e.a.y) *ℤ (p.x -ℤ p.w *ℤ e.a.x)
 
 -- by whether the ends of an edge are low: one that rises past p passes where p is to its left, one that falls past p where p
@@ -52,12 +52,12 @@ passing false true u = lt_z u (pos 0)
 passing false false u = false
 
 -- the edge crosses the ray from p to the right, and not at p itself
-abbrev pub passes : Spot → Seg → Bool
+abbrev pub passes : RationalPoint → Seg → Bool
 passes p e = passing (is_low p e.a) (is_low p e.b) (side e p)
 
 abbrev pub IsOdd : ℕ → Type 0
 IsOdd n = (k : ℕ) × (n ≡ 2 * k + 1)
 
 -- p lies on an edge of the polygon, or an odd number of its edges passes to the right of p
-abbrev pub IsInside : List Point → Spot → Type 0
+abbrev pub IsInside : List Point → RationalPoint → Type 0
 IsInside corners p = SomeEdge (λ e. IsOn e p) (outline corners) ⊎ IsOdd (count_by (passes p) (outline corners))

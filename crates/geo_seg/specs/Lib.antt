@@ -4,10 +4,10 @@ pub mod Inside
 pub mod Cores
 pub mod Distances
 pub mod Boxes
-pub mod Corners
+pub mod PolygonCorners
 pub mod Gap
-pub mod Runs
-pub mod Kept
+pub mod RunBoxes
+pub mod PolygonCaches
 pub mod Shifts
 pub mod ShiftedRuns
 pub mod Ranges

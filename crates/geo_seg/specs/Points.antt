@@ -5,23 +5,23 @@ use Rattle.geo_seg.specs.declared.points.Point.{Point}
 use Rattle.geo_seg.specs.declared.points.Seg.{Seg}
 
 -- the point (x / w, y / w), in homogeneous coordinates
-pub record Spot : Type 0 where
+pub record RationalPoint : Type 0 where
   pub x : ℤ
   pub y : ℤ
   pub w : ℤ
   pub positive : pos 0 <ℤ w
 
--- the spot q is the point p
-pub record IsAt (p : Point) (q : Spot) : Type 0 where
+-- the rational point q is the point p
+pub record IsAt (p : Point) (q : RationalPoint) : Type 0 where
   pub at_x : q.x ≡ q.w *ℤ p.x
   pub at_y : q.y ≡ q.w *ℤ p.y
 
--- the point p as a spot
-unfoldable pub spot_of : Point → Spot
-spot_of p = record { x = p.x; y = p.y; w = pos 1; positive = record { lt = tt } }
+-- the point p as a rational point
+unfoldable pub rational_point_of : Point → RationalPoint
+rational_point_of p = record { x = p.x; y = p.y; w = pos 1; positive = record { lt = tt } }
 
--- the spot p lies on the segment s, at part / whole of the way from its one end to the other
-pub record IsOn (s : Seg) (p : Spot) : Type 0 where
+-- the rational point p lies on the segment s, at part / whole of the way from its one end to the other
+pub record IsOn (s : Seg) (p : RationalPoint) : Type 0 where
   pub part : ℤ
   pub whole : ℤ
   pub starts : pos 0 ≤ℤ part

@@ -4,8 +4,8 @@ use Rattle.std.specs.Int.Signed.{lt_z}
 use Rattle.geo_seg.specs.declared.points.Point.{Point}
 use Rattle.geo_seg.specs.declared.frames.Frame.{Frame}
 use Rattle.geo_seg.specs.Boxes.{FitsCore}
-use Rattle.geo_seg.specs.Corners.{IsHeld}
-use Rattle.geo_seg.specs.Runs.{sides_of}
+use Rattle.geo_seg.specs.PolygonCorners.{IsHeld}
+use Rattle.geo_seg.specs.RunBoxes.{sides_of}
 use Rattle.geo_seg.specs.Shifts.{IsShiftedPoint}
 
 -- the nearest coordinate

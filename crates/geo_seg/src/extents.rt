@@ -4,7 +4,7 @@ ghost use Rattle.std.specs.Prelude.{◌≡◌, ◌++◌, ◌∷◌, [], List, po
 ghost use Rattle.geo_seg.specs.Nearer.{IsUpTo};
 ghost use Rattle.geo_seg.specs.declared.points.Point.{Point};
 ghost use Rattle.geo_seg.specs.Boxes.{IsLeastBox, widened, FitsCore, FitsShape};
-ghost use Rattle.geo_seg.specs.Corners.{IsCornerBox};
+ghost use Rattle.geo_seg.specs.PolygonCorners.{IsCornerBox};
 ghost use Rattle.geo_seg.specs.Points.{IsAt, IsOn};
 ghost use Rattle.geo_seg.specs.Cores.{IsPointOf, IsBoundsOf};
 

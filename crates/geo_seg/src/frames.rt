@@ -2,7 +2,7 @@
 
 ghost use Rattle.std.specs.Prelude.{◌≡◌};
 ghost use Rattle.geo_seg.specs.Boxes.{FitsCore};
-ghost use Rattle.geo_seg.specs.Runs.{sides_of};
+ghost use Rattle.geo_seg.specs.RunBoxes.{sides_of};
 
 use crate::boxes::Bounds;
 

@@ -5,7 +5,7 @@ ghost use Rattle.std.specs.List.{AllZip, list_all};
 ghost use Rattle.geo_seg.specs.Shifts.{IsShiftedPoint, point_stays};
 ghost use Rattle.geo_seg.specs.Boxes.{IsLeastBox, FitsCore};
 ghost use Rattle.geo_seg.specs.Inside.{IsInside, outline};
-ghost use Rattle.geo_seg.specs.Runs.{IsRunBox};
+ghost use Rattle.geo_seg.specs.RunBoxes.{IsRunBox};
 
 use crate::boxes::Bounds;
 use crate::points::Point;
@@ -32,7 +32,7 @@ pub struct Poly {
 impl Model for Poly {
     ghost use Rattle.std.specs.Prelude.{List};
     ghost use Rattle.geo_seg.specs.declared.points.Point.{Point};
-    ghost use Rattle.geo_seg.specs.Kept.{corners_of, IsKept};
+    ghost use Rattle.geo_seg.specs.PolygonCaches.{corners_of, IsKept};
 
     ghost Value = { List Point };
 

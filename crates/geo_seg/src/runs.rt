@@ -3,11 +3,11 @@
 ghost use Rattle.std.specs.Prelude.{◌≡◌, ◌<◌, ◌∷◌, List, true, IfOk, IfSome, length, take, drop};
 ghost use Rattle.geo_seg.specs.declared.points.Seg.{Seg};
 ghost use Rattle.geo_seg.specs.Boxes.{FitsCore};
-ghost use Rattle.geo_seg.specs.Corners.{IsCornerBox};
+ghost use Rattle.geo_seg.specs.PolygonCorners.{IsCornerBox};
 ghost use Rattle.geo_seg.specs.Inside.{outline};
 ghost use Rattle.std.specs.List.{AllZip, list_all};
 ghost use Rattle.geo_seg.specs.Shifts.{IsShiftedPoint, point_stays};
-ghost use Rattle.geo_seg.specs.Runs.{AreRuns, IsRunBox, HasRuns};
+ghost use Rattle.geo_seg.specs.RunBoxes.{AreRuns, IsRunBox, HasRuns};
 
 use crate::boxes::Bounds;
 use crate::extents::{around, grown};
@@ -126,7 +126,8 @@ impl Indexed {
         requires some { 0 < length self.old.corners.items }
         requires runs { HasRuns self.old }
         requires stays { list_all (point_stays by.dx by.dy) self.old.corners.items ≡ true }
-        ensures corners { AllZip (IsShiftedPoint by.dx by.dy) self.old.corners.items self.new.corners.items }
+        ensures corners { AllZip (IsShiftedPoint by.dx by.dy) self.old.corners.items
+            self.new.corners.items }
         ensures runs { HasRuns self.new }
     {
         shift_outline(&mut self.corners, by);

@@ -4,7 +4,7 @@ ghost use Rattle.std.specs.Prelude.{◌≡◌, ◌+ℤ◌, ◌<◌, true, All};
 ghost use Rattle.geo_seg.specs.Ranges.{IsOffset};
 ghost use Rattle.std.specs.List.{AllZip, list_all};
 ghost use Rattle.geo_seg.specs.Boxes.{FitsCore};
-ghost use Rattle.geo_seg.specs.Runs.{sides_of};
+ghost use Rattle.geo_seg.specs.RunBoxes.{sides_of};
 ghost use Rattle.geo_seg.specs.Shifts.{IsShiftedPoint, IsShiftedShape, is_coordinate, point_stays, core_stays};
 ghost use Rattle.geo_seg.specs.ShiftedRuns.{IsShiftedFrame, in_range_of};
 

@@ -10,7 +10,7 @@ use Rattle.geo_seg.specs.Distances.{Apart, Meet}
 use Rattle.geo_seg.proofs.BoxLemmas.{clear_apart, clear_not_within}
 use Rattle.board_items.specs.declared.parts.Part.{Part}
 use Rattle.board_items.specs.Extents.{LiesIn, AllLieIn}
-use Rattle.item_copper.proofs.Rooms.{le_unless}
+use Rattle.item_copper.proofs.ItemBoxes.{le_unless}
 
 -- the two keep the distance v, and do not meet
 pub record IsFar (v : ℤ) (part other : Part) : Type 0 where

@@ -8,7 +8,7 @@ use Rattle.geo_seg.specs.declared.shapes.Shape.{Shape}
 use Rattle.geo_seg.specs.Distances.{Apart, IsGap}
 use Rattle.geo_shape.proofs.Numbers.{apart_at_less, double_le, double_from}
 use Rattle.board_items.specs.declared.parts.Part.{Part}
-use Rattle.board_items.specs.Copper.{Keeps}
+use Rattle.board_items.specs.CopperPairs.{Keeps}
 
 pub int_cases : (g : ℤ) → (pos 1 ≤ℤ g) ⊎ (g ≤ℤ pos 0)
 int_cases (pos zero) = inr (omega (arith, ints))

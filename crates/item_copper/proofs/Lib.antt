@@ -2,6 +2,6 @@ pub mod Chosen
 pub mod Far
 pub mod Gaps
 pub mod Meeting
-pub mod Rooms
+pub mod ItemBoxes
 pub mod SideLists
 pub mod Symmetry

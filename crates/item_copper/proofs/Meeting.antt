@@ -6,7 +6,7 @@ use Rattle.geo_seg.specs.Distances.{Meet}
 use Rattle.board_items.specs.declared.parts.Part.{Part}
 use Rattle.board_items.specs.declared.item.Item.{Item}
 use Rattle.copper_layers.specs.Layers.{has_layer}
-use Rattle.board_items.specs.Copper.{on_layer, PartsMeet, CopperMeets}
+use Rattle.board_items.specs.CopperPairs.{on_layer, PartsMeet, CopperMeets}
 
 pub any_here : {X : Type 0} (P : X → Type 0) (x : X) (xs : List X) → P x → Any P (x ∷ xs)
 any_here P x xs p = (0, x, omega arith, refl, p)

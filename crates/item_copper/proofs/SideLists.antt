@@ -4,12 +4,12 @@ use Rattle.std.specs.List.{Any, AllWithin, filter}
 use Rattle.std.proofs.lemmas.List.Elements.{All-nil, All-cons, All-head, All-tail, AllWithin-upto, All-from_all_within}
 use Rattle.geo_seg.specs.Distances.{Meet, IsGap}
 use Rattle.board_items.specs.declared.parts.Part.{Part}
-use Rattle.board_items.specs.Copper.{SomeMeet}
+use Rattle.board_items.specs.CopperPairs.{SomeMeet}
 use Rattle.item_copper.specs.declared.side.SomeParts.{SomeParts}
 use Rattle.item_copper.specs.declared.side.SomeParts.TheVariants.{Listed, Single}
 use Rattle.item_copper.specs.declared.side.ListedParts.{ListedParts}
 use Rattle.item_copper.specs.declared.side.SinglePart.{SinglePart}
-use Rattle.item_copper.specs.Sides.{is_taken, taken, parts_at}
+use Rattle.item_copper.specs.MeasuredSides.{is_taken, taken, parts_at}
 use Rattle.item_copper.proofs.Meeting.{any_here, any_cases, any_none}
 use Rattle.item_copper.proofs.Chosen.{some_chosen}
 use Rattle.item_copper.proofs.Gaps.{gap_as}

@@ -3,21 +3,21 @@ use Rattle.std.proofs.Common.{◌≡◌, ℤ, ◌+ℤ◌, ◌≤ℤ◌, [], ◌�
 use Rattle.std.proofs.lemmas.Int.{ints}
 use Rattle.int_algebra.proofs.Ring.{var, ◌⊕◌, ◌⊖◌, ◌⊗◌, sq, ring}
 use Rattle.geo_seg.specs.declared.shapes.Shape.{Shape}
-use Rattle.geo_seg.specs.Points.{Spot}
+use Rattle.geo_seg.specs.Points.{RationalPoint}
 use Rattle.geo_seg.specs.Nearer.{squared_gap, squared_limit, IsAtMost}
 use Rattle.geo_seg.specs.Distances.{Meet}
 use Rattle.board_items.specs.declared.item.Item.{Item}
-use Rattle.board_items.specs.Copper.{CopperMeets}
+use Rattle.board_items.specs.CopperPairs.{CopperMeets}
 
-gap_sym : (p q : Spot) → squared_gap p q ≡ squared_gap q p
+gap_sym : (p q : RationalPoint) → squared_gap p q ≡ squared_gap q p
 gap_sym p q =
     let Px = var 0 in let Py = var 1 in let Pw = var 2 in let Qx = var 3 in let Qy = var 4 in let Qw = var 5 in
     ring (p.x ∷ p.y ∷ p.w ∷ q.x ∷ q.y ∷ q.w ∷ []) (sq (Px ⊗ Qw ⊖ Qx ⊗ Pw) ⊕ sq (Py ⊗ Qw ⊖ Qy ⊗ Pw)) (sq (Qx ⊗ Pw ⊖ Px ⊗ Qw) ⊕ sq (Qy ⊗ Pw ⊖ Py ⊗ Qw)) tt
 
-limit_sym : (d : ℤ) (p q : Spot) → squared_limit d p q ≡ squared_limit d q p
+limit_sym : (d : ℤ) (p q : RationalPoint) → squared_limit d p q ≡ squared_limit d q p
 limit_sym d p q = ring (d ∷ p.w ∷ q.w ∷ []) (sq (var 0 ⊗ var 1 ⊗ var 2)) (sq (var 0 ⊗ var 2 ⊗ var 1)) tt
 
-within_sym : (d : ℤ) (p q : Spot) → IsAtMost d p q → IsAtMost d q p
+within_sym : (d : ℤ) (p q : RationalPoint) → IsAtMost d p q → IsAtMost d q p
 within_sym d p q n = along (squared_gap p q) (squared_gap q p) (squared_limit d p q) (squared_limit d q p) (gap_sym p q) (limit_sym d p q) n
   where
     along : (a a' b b' : ℤ) → a ≡ a' → b ≡ b' → a ≤ℤ b → a' ≤ℤ b'

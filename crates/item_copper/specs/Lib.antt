@@ -1,2 +1,2 @@
 pub mod Stack
-pub mod Sides
+pub mod MeasuredSides

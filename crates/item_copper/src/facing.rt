@@ -4,8 +4,8 @@ ghost use Rattle.std.specs.Prelude.{◌≡◌, ℤ, ◌*ℤ◌, pos, All, IsTrue
 ghost use Rattle.std.specs.List.{Any};
 ghost use Rattle.plain_types.specs.Lengths.{IsLength};
 ghost use Rattle.geo_seg.specs.Distances.{Apart, Meet, IsGap};
-ghost use Rattle.board_items.specs.Copper.{SomeMeet, Keeps};
-ghost use Rattle.item_copper.specs.Sides.{is_taken, parts_at};
+ghost use Rattle.board_items.specs.CopperPairs.{SomeMeet, Keeps};
+ghost use Rattle.item_copper.specs.MeasuredSides.{is_taken, parts_at};
 
 use crate::side::{ListedParts, SomeParts};
 use board_items::{Nm, Part};
@@ -46,7 +46,8 @@ pub fn is_empty(side: &SomeParts<'_>) -> bool
 
 /// Whether the shape meets one of those that are listed.
 fn meets_listed(shape: &Shape, listed: &ListedParts<'_>) -> bool
-    ensures { IsTrue result ↔ Any (λ other. Meet shape.now other.shape) (filter (is_taken listed.now.layer) listed.now.parts.now) }
+    ensures { IsTrue result ↔ Any (λ other.
+        Meet shape.now other.shape) (filter (is_taken listed.now.layer) listed.now.parts.now) }
 {
     for other in listed.parts {
         if takes(listed, other) && geo_shape::meet(shape, &other.shape) {
@@ -69,7 +70,9 @@ fn meets_side(shape: &Shape, side: &SomeParts<'_>) -> bool
 
 /// Whether one of those that are listed meets one of the side.
 fn listed_meet(listed: &ListedParts<'_>, side: &SomeParts<'_>) -> bool
-    ensures { IsTrue result ↔ Any (λ part. Any (λ other. Meet part.shape other.shape) (parts_at side.now)) (filter (is_taken listed.now.layer) listed.now.parts.now) }
+    ensures { IsTrue result ↔ Any (λ part.
+        Any (λ other. Meet part.shape other.shape) (parts_at side.now))
+        (filter (is_taken listed.now.layer) listed.now.parts.now) }
 {
     for part in listed.parts {
         if takes(listed, part) && meets_side(&part.shape, side) {
@@ -105,7 +108,9 @@ fn shape_gap(a: &Shape, b: &Shape, most: Nm) -> Nm
 /// The gap between the shape and those that are listed.
 fn gap_to_listed(shape: &Shape, listed: &ListedParts<'_>, most: Nm) -> Nm
     requires { IsLength most }
-    ensures { IsGap (λ g. All (λ other. Apart shape.now other.shape (pos 2 *ℤ g)) (filter (is_taken listed.now.layer) listed.now.parts.now)) most result }
+    ensures { IsGap (λ g. All (λ other.
+        Apart shape.now other.shape (pos 2 *ℤ g))
+        (filter (is_taken listed.now.layer) listed.now.parts.now)) most result }
 {
     let mut gap = most;
     for other in listed.parts {
@@ -119,7 +124,8 @@ fn gap_to_listed(shape: &Shape, listed: &ListedParts<'_>, most: Nm) -> Nm
 /// The gap between the shape and the side.
 fn gap_to_side(shape: &Shape, side: &SomeParts<'_>, most: Nm) -> Nm
     requires { IsLength most }
-    ensures { IsGap (λ g. All (λ other. Apart shape.now other.shape (pos 2 *ℤ g)) (parts_at side.now)) most result }
+    ensures { IsGap (λ g. All (λ other.
+        Apart shape.now other.shape (pos 2 *ℤ g)) (parts_at side.now)) most result }
 {
     match side {
         SomeParts::Nothing => most,
@@ -131,7 +137,9 @@ fn gap_to_side(shape: &Shape, side: &SomeParts<'_>, most: Nm) -> Nm
 /// The gap between those that are listed and the side.
 fn listed_gap(listed: &ListedParts<'_>, side: &SomeParts<'_>, most: Nm) -> Nm
     requires { IsLength most }
-    ensures { IsGap (λ g. All (λ part. All (λ other. Apart part.shape other.shape (pos 2 *ℤ g)) (parts_at side.now)) (filter (is_taken listed.now.layer) listed.now.parts.now)) most result }
+    ensures { IsGap (λ g. All (λ part.
+        All (λ other. Apart part.shape other.shape (pos 2 *ℤ g)) (parts_at side.now))
+        (filter (is_taken listed.now.layer) listed.now.parts.now)) most result }
 {
     let mut gap = most;
     for part in listed.parts {

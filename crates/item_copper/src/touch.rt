@@ -2,7 +2,7 @@
 
 ghost use Rattle.std.specs.Prelude.{IsTrue, ◌↔◌};
 ghost use Rattle.std.specs.List.{Any};
-ghost use Rattle.board_items.specs.Copper.{PartsMeet, CopperMeets};
+ghost use Rattle.board_items.specs.CopperPairs.{PartsMeet, CopperMeets};
 
 use crate::layers::share_layer;
 use board_items::{Item, Part};

@@ -3,15 +3,15 @@ use Rattle.std.proofs.Common.{◌≡◌, ◌⊎◌, ◌∙◌, refl, sym, ap, su
 use Rattle.board_items.specs.declared.item.Item.{Item}
 use Rattle.board_items.specs.declared.item.What.{What}
 use Rattle.board_items.specs.Boards.{PlainBoard, name_of}
-use Rattle.net_class.specs.Classes.{PlainClasses}
+use Rattle.net_class.specs.NetClasses.{PlainClasses}
 use Rattle.rule_pick.specs.declared.facts.Facts.{Facts}
 use Rattle.rule_pick.specs.FactsOf.{MeetsArea, MeetsCourtyard, AreNamesOf, class_of_net, AreFactsOf}
-use Rattle.item_facts.specs.Near.{IsNear}
+use Rattle.item_facts.specs.NearItems.{MayMeetItem}
 use Rattle.item_facts.proofs.MarkBoxes.{near_area, near_courtyard}
 use Rattle.item_facts.proofs.NearIds.{both_ways}
 use Rattle.item_facts.proofs.Picked.{skipped, head_kept}
 
-pub met_is_near : (item other : Item) (name : List ℕ) → MeetsArea item other.what name ⊎ MeetsCourtyard item other.what name → IsNear item other
+pub met_is_near : (item other : Item) (name : List ℕ) → MeetsArea item other.what name ⊎ MeetsCourtyard item other.what name → MayMeetItem item other
 met_is_near item other name (inl m) = near_area item other name m
 met_is_near item other name (inr m) = near_courtyard item other name m
 
@@ -51,8 +51,8 @@ module _ (Gives : What → List ℕ → Type 0) (test : ℕ × Item → Bool) wh
 -- ---- facts
 
 module _ (old new : PlainBoard) (classes : PlainClasses) (item : Item) (facts : Facts) (test : ℕ × Item → Bool) (nets : new.nets ≡ old.nets) (same : filter test new.items ≡ filter test old.items)
-    (passes : (entry : ℕ × Item) → Contains old.items entry ⊎ Contains new.items entry → IsNear item entry.1 → test entry ≡ true) (h : AreFactsOf old classes item facts) where
-  names_stay : (Gives : What → List ℕ → Type 0) → ((other : Item) (name : List ℕ) → Gives other.what name → IsNear item other) → (names : List (List ℕ)) → AreNamesOf Gives old.items names → AreNamesOf Gives new.items names
+    (passes : (entry : ℕ × Item) → Contains old.items entry ⊎ Contains new.items entry → MayMeetItem item entry.1 → test entry ≡ true) (h : AreFactsOf old classes item facts) where
+  names_stay : (Gives : What → List ℕ → Type 0) → ((other : Item) (name : List ℕ) → Gives other.what name → MayMeetItem item other) → (names : List (List ℕ)) → AreNamesOf Gives old.items names → AreNamesOf Gives new.items names
   names_stay Gives near names a =
       widened Gives test new.items names (λ e c t name g. both_ways (test e) (passes e (inr c) (near e.1 name g)) t)
       (subst (λ (es : List (ℕ × Item)). AreNamesOf Gives es names) (sym same) (narrowed Gives test old.items names (λ e c t name g. both_ways (test e) (passes e (inl c) (near e.1 name g)) t) a))

@@ -4,7 +4,7 @@ use Rattle.std.proofs.lemmas.List.{take_all, drop_all}
 use Rattle.std.proofs.lemmas.Bool.{cases_lt}
 use Rattle.board_items.specs.declared.item.Item.{Item}
 use Rattle.board_items.specs.Boards.{PlainBoard, item_at}
-use Rattle.net_class.specs.Classes.{PlainClasses}
+use Rattle.net_class.specs.NetClasses.{PlainClasses}
 use Rattle.rule_pick.specs.declared.facts.Facts.{Facts}
 use Rattle.rule_pick.specs.ById.{facts_at}
 use Rattle.rule_pick.specs.FactsOf.{AreFacts}
@@ -12,7 +12,7 @@ use Rattle.rule_pick.specs.AllFacts.{HasFacts}
 use Rattle.rule_pick.proofs.Slots.{within, past}
 use Rattle.item_facts.specs.Known.{AreLeft}
 use Rattle.item_facts.proofs.LeftItems.{next_left, head_or_left}
-use Rattle.item_facts.specs.Slots.{AreFilled}
+use Rattle.item_facts.specs.FactSlots.{AreFilled}
 
 -- what stands in a slot are facts of its item, and with some for each item they are all
 pub all_found : (board : PlainBoard) (classes : PlainClasses) (old new : List (Option Facts)) → AreFilled board classes old new

@@ -10,11 +10,11 @@ use Rattle.board_items.specs.declared.item.What.TheVariants as what
 use Rattle.board_items.specs.declared.item.Item.{Item}
 use Rattle.board_items.specs.Boards.{is_mark}
 use Rattle.copper_layers.specs.Layers.{has_layer}
-use Rattle.board_items.specs.Copper.{PartsMeet, on_layer}
-use Rattle.board_items.specs.Parts.{parts_of, hole_parts, kind_parts}
+use Rattle.board_items.specs.CopperPairs.{PartsMeet, on_layer}
+use Rattle.board_items.specs.ItemParts.{parts_of, hole_parts, kind_parts}
 use Rattle.item_copper.proofs.Meeting.{any_of_chosen}
-use Rattle.item_copper.proofs.Rooms.{parts_meet}
-use Rattle.item_facts.specs.Near.{IsNear}
+use Rattle.item_copper.proofs.ItemBoxes.{parts_meet}
+use Rattle.item_facts.specs.NearItems.{MayMeetItem}
 use Rattle.rule_pick.specs.FactsOf.{placed_parts, parts_asked, MeetsPart, MeetsArea, MeetsEither, MeetsCourtyard}
 
 -- a part of the one list and a part of the other meet
@@ -92,7 +92,7 @@ not_empty ps part c e = nothing (subst (λ (qs : List Part). Contains qs part) e
     nothing : Contains [] part → ⊥
     nothing d = let lt = d.1 in omega arith
 
-is_near : (item other : Item) → is_mark other.what ≡ true → HaveMeeting (parts_of item) (kind_parts other.what) → IsNear item other
+is_near : (item other : Item) → is_mark other.what ≡ true → HaveMeeting (parts_of item) (kind_parts other.what) → MayMeetItem item other
 is_near item other mark m = record {
   mark = mark;
   own = not_empty (parts_of item) m.part m.first;
@@ -100,8 +100,8 @@ is_near item other mark m = record {
   boxes = λ b c hb hc. parts_meet (parts_of item) (parts_of other) b c hb hc m.part m.other m.first (kind_in other m.other m.second) m.meet;
 }
 
-pub near_area : (item other : Item) (name : List ℕ) → MeetsArea item other.what name → IsNear item other
+pub near_area : (item other : Item) (name : List ℕ) → MeetsArea item other.what name → MayMeetItem item other
 near_area item other name m = let found = area_meeting item other.what name m in is_near item other found.0 found.1
 
-pub near_courtyard : (item other : Item) (name : List ℕ) → MeetsCourtyard item other.what name → IsNear item other
+pub near_courtyard : (item other : Item) (name : List ℕ) → MeetsCourtyard item other.what name → MayMeetItem item other
 near_courtyard item other name m = let found = courtyard_meeting item other.what name m in is_near item other found.0 found.1

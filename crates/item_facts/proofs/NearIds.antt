@@ -6,7 +6,7 @@ use Rattle.std.proofs.lemmas.Bool.{eqb-true}
 use Rattle.std.proofs.lemmas.List.Kept.{AllPairs-from_increasing}
 use Rattle.board_items.specs.declared.item.Item.{Item}
 use Rattle.board_items.specs.Boards.{Rise, item_at, ids_where}
-use Rattle.item_facts.specs.Near.{DoRise}
+use Rattle.item_facts.specs.NearItems.{DoRise}
 
 pub both_ways : (b : Bool) → b ≡ true → b ≡ false → ⊥
 both_ways b e f = cc

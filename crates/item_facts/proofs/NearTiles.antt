@@ -4,17 +4,17 @@ use Rattle.std.specs.List.Sorted.{IsStrictlyIncreasing}
 use Rattle.geo_seg.specs.declared.boxes.Bounds.{Bounds}
 use Rattle.board_items.specs.declared.item.Item.{Item}
 use Rattle.board_items.specs.Boards.{PlainBoard, IsSound, item_at, is_mark, marks_of}
-use Rattle.board_items.specs.Parts.{parts_of}
+use Rattle.board_items.specs.ItemParts.{parts_of}
 use Rattle.board_items.specs.Extents.{AreBoundsOf}
 use Rattle.box_index.specs.Tiles.{PlainIndex}
 use Rattle.box_index.specs.Reached.{HasReached}
 use Rattle.box_index.proofs.Buckets.{contains_filter}
-use Rattle.item_facts.specs.Near.{DoRise, IsNear, is_mark_of, HoldsMarks, AreEnough}
+use Rattle.item_facts.specs.NearItems.{DoRise, MayMeetItem, is_mark_of, HoldsMarks, AreEnough}
 use Rattle.item_facts.proofs.MarkBoxes.{near_area, near_courtyard}
 use Rattle.item_facts.proofs.Marked.{no_parts}
 use Rattle.item_facts.proofs.NearIds.{do_rise, ids_rise, ids_has}
 
-module _ (items : List (ℕ × Item)) (item : Item) (ids : List ℕ) (rises : DoRise 0 ids) (among : (id : ℕ) (other : Item) → item_at items id ≡ Some other → IsNear item other → Contains ids id) where
+module _ (items : List (ℕ × Item)) (item : Item) (ids : List ℕ) (rises : DoRise 0 ids) (among : (id : ℕ) (other : Item) → item_at items id ≡ Some other → MayMeetItem item other → Contains ids id) where
   near_enough : AreEnough item items ids
   near_enough = record {
     rises = rises;
@@ -25,7 +25,7 @@ module _ (items : List (ℕ × Item)) (item : Item) (ids : List ℕ) (rises : Do
 -- the marks among what was reached are enough
 module _ (items : List (ℕ × Item)) (index : PlainIndex) (holds : HoldsMarks items index) (item : Item) (box : Bounds) (own : AreBoundsOf (parts_of item) (Some box)) (old pushed kept : List ℕ) (reached : HasReached box index.entries old pushed)
     (rise : IsStrictlyIncreasing kept) (has : (id : ℕ) → Contains (filter (λ id. is_mark_of items id) pushed) id → Contains kept id) where
-  among : (id : ℕ) (other : Item) → item_at items id ≡ Some other → IsNear item other → Contains kept id
+  among : (id : ℕ) (other : Item) → item_at items id ≡ Some other → MayMeetItem item other → Contains kept id
   among id other found near =
       let mark = holds.each id other found near.mark near.parts in
       let there = reached.met (record { id = id; bounds = mark.box }) mark.entry (near.boxes box mark.box own mark.own) in

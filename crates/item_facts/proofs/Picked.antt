@@ -7,7 +7,7 @@ use Rattle.board_items.specs.declared.item.Item.{Item}
 use Rattle.board_items.specs.declared.item.What.{What}
 use Rattle.board_items.specs.Boards.{Rise, item_at}
 use Rattle.rule_pick.specs.FactsOf.{AreNamesOf}
-use Rattle.item_facts.specs.Near.{DoRise, entry_if, picked}
+use Rattle.item_facts.specs.NearItems.{DoRise, entry_if, picked}
 use Rattle.item_facts.proofs.LeftItems.{none_below, at_head, past_head}
 use Rattle.item_facts.proofs.NearIds.{lower}
 

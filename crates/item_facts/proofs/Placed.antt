@@ -5,8 +5,8 @@ use Rattle.geo_seg.specs.Distances.{Meet}
 use Rattle.board_items.specs.declared.parts.Part.{Part}
 use Rattle.board_items.specs.declared.item.Hole.{Hole}
 use Rattle.copper_layers.specs.Layers.{has_layer}
-use Rattle.board_items.specs.Copper.{PartsMeet, SomeMeet, on_layer}
-use Rattle.board_items.specs.Parts.{hole_parts}
+use Rattle.board_items.specs.CopperPairs.{PartsMeet, SomeMeet, on_layer}
+use Rattle.board_items.specs.ItemParts.{hole_parts}
 use Rattle.item_copper.proofs.Meeting.{any_here, any_none, any_cases}
 use Rattle.board_items.specs.declared.item.What.{What}
 use Rattle.board_items.specs.declared.item.What.TheVariants as what

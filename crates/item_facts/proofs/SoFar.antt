@@ -3,7 +3,7 @@ use Rattle.std.proofs.Common.{◌≡◌, ◌≢◌, refl, sym, ap, subst, ◌∙
 use Rattle.std.proofs.lemmas.Bool.{cases_eq}
 use Rattle.board_items.specs.declared.item.Item.{Item}
 use Rattle.board_items.specs.Boards.{PlainBoard, item_at}
-use Rattle.net_class.specs.Classes.{PlainClasses}
+use Rattle.net_class.specs.NetClasses.{PlainClasses}
 use Rattle.rule_pick.specs.declared.facts.Facts.{Facts}
 use Rattle.rule_pick.specs.ById.{facts_at, IsPut}
 use Rattle.rule_pick.specs.FactsOf.{AreFactsOf, AreFacts}

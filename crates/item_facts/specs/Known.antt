@@ -5,8 +5,8 @@ use denote.Ref.{Bor}
 use Rattle.board_items.specs.declared.item.Item.{Item}
 use Rattle.board_items.specs.Boards.{PlainBoard, IsRising, item_at}
 use Rattle.net_class.specs.declared.lengths.Class.{Class}
-use Rattle.net_class.specs.Classes.{PlainClasses}
-use Rattle.net_class.specs.Views.{plain_class}
+use Rattle.net_class.specs.NetClasses.{PlainClasses}
+use Rattle.net_class.specs.ClassValues.{plain_class}
 use Rattle.rule_pick.specs.ById.{facts_at}
 use Rattle.rule_pick.specs.FactsOf.{class_of_net, AreFacts}
 use Rattle.rule_pick.specs.declared.facts.Facts.{Facts}

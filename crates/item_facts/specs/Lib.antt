@@ -1,5 +1,5 @@
-pub mod Fronts
-pub mod Near
+pub mod FoundNames
+pub mod NearItems
 pub mod Known
-pub mod Same
-pub mod Slots
+pub mod EqualFacts
+pub mod FactSlots

@@ -3,13 +3,13 @@
 ghost use Rattle.std.specs.Prelude.{◌≡◌, ℕ, None, IfOk, IfSome, OnOk, IsSome};
 ghost use Rattle.std.specs.Option.{option_copied};
 ghost use Rattle.board_items.specs.Boards.{IsSound, marks_of, item_at};
-ghost use Rattle.net_class.specs.Classes.{PlainClasses};
-ghost use Rattle.net_class.specs.Views.{plain_class};
+ghost use Rattle.net_class.specs.NetClasses.{PlainClasses};
+ghost use Rattle.net_class.specs.ClassValues.{plain_class};
 ghost use Rattle.rule_pick.specs.FactsOf.{AreFactsOf, AreFacts, class_of_net};
 ghost use Rattle.rule_pick.specs.AllFacts.{HasFacts};
 ghost use Rattle.rule_pick.specs.ById.{facts_at};
 ghost use Rattle.item_facts.specs.Known.{AreKnown};
-ghost use Rattle.item_facts.specs.Near.{AreEnough, HoldsMarks};
+ghost use Rattle.item_facts.specs.NearItems.{AreEnough, HoldsMarks};
 
 use crate::classes::class_of_net;
 use crate::names::{areas_near, courtyards_near};
@@ -26,8 +26,8 @@ use std::alloc::{AllocError, Global};
 /// How many tests of an item against an area or a body are few.
 const FEW_TESTS: usize = 8_192;
 
-/// The class of a net, sought once for each net: patterns are dear. Only want of memory refuses it; also then each net in `known` has
-/// its class.
+/// The class of a net, sought once for each net: patterns are dear. Only running out of memory refuses it; also then each net in `known`
+/// has its class.
 pub fn known_class<'c>(
     known: &mut IndexMap<u32, &'c Class>,
     board: &Board,
@@ -47,7 +47,7 @@ pub fn known_class<'c>(
     Ok(class)
 }
 
-/// The facts of an item of this class, where the ids are enough to ask for the areas and bodies that it meets. Only want of memory
+/// The facts of an item of this class, where the ids are enough to ask for the areas and bodies that it meets. Only running out of memory
 /// refuses it.
 #[inline(always)]
 pub fn facts_among(
@@ -68,8 +68,8 @@ pub fn facts_among(
 }
 
 /// The facts of an item, which is asked only against the areas and bodies near it. The index has all areas and bodies of the
-/// board, and may have its other items. `known` are classes of nets that were sought, and `room` is room for ids; a walk over
-/// many items hands both on. Only want of memory refuses it; also then each net in `known` has its class.
+/// board, and may have its other items. `known` are classes of nets that were sought, and `scratch` is room for ids; a walk over
+/// many items hands both on. Only running out of memory refuses it; also then each net in `known` has its class.
 #[inline(always)]
 pub fn facts_near<'c>(
     alloc: Global,
@@ -77,7 +77,7 @@ pub fn facts_near<'c>(
     classes: &'c Classes,
     index: &TileIndex,
     known: &mut IndexMap<u32, &'c Class>,
-    room: &mut Vec<u32>,
+    scratch: &mut Vec<u32>,
     item: &Item,
 ) -> Result<Facts, AllocError>
     requires index { HoldsMarks board.now.items index.now }
@@ -86,8 +86,8 @@ pub fn facts_near<'c>(
     ensures facts { IfOk result (AreFactsOf board.now classes.now item.now) }
 {
     let class = known_class(known, board, classes, item.net)?;
-    marks_near(board, index, item, room)?;
-    facts_among(alloc, board, class, item, room)
+    marks_near(board, index, item, scratch)?;
+    facts_among(alloc, board, class, item, scratch)
 }
 
 /// The ids of all areas and bodies.
@@ -113,7 +113,7 @@ fn facts_of(
 }
 
 /// The facts of the item of this id, which is one of the board's: what rules may ask of it. The titles of the rule areas that
-/// it meets, and the references of the footprints whose courtyards it meets, stand in the order of the items. Only want of
+/// it meets, and the references of the footprints whose courtyards it meets, stand in the order of the items. Only running out of
 /// memory refuses it.
 pub fn facts(alloc: Global, board: &Board, classes: &Classes, id: u32) -> Result<Facts, AllocError>
     requires { IsSome (item_at board.now.items id) }
@@ -141,7 +141,7 @@ fn facts_by<'c>(
     classes: &'c Classes,
     index: Option<&TileIndex>,
     known: &mut IndexMap<u32, &'c Class>,
-    room: &mut Vec<u32>,
+    scratch: &mut Vec<u32>,
     item: &Item,
 ) -> Result<Facts, AllocError>
     requires index { IfSome (option_copied index) (HoldsMarks board.now.items) }
@@ -150,7 +150,7 @@ fn facts_by<'c>(
     ensures facts { IfOk result (AreFactsOf board.now classes.now item.now) }
 {
     match index {
-        Some(index) => facts_near(alloc, board, classes, index, known, room, item),
+        Some(index) => facts_near(alloc, board, classes, index, known, scratch, item),
         None => facts_of(alloc, board, classes, item),
     }
 }
@@ -169,9 +169,9 @@ fn put_all(
     ensures { OnOk result (HasFacts board.now classes.now all.new) }
 {
     let mut known = IndexMap::new(alloc);
-    let mut room = Vec::new(alloc);
+    let mut scratch = Vec::new(alloc);
     for (id, item) in board.iter() {
-        let facts = facts_by(alloc, board, classes, index, &mut known, &mut room, item)?;
+        let facts = facts_by(alloc, board, classes, index, &mut known, &mut scratch, item)?;
         all.insert(id, facts)?;
     }
     Ok(())
@@ -188,12 +188,12 @@ fn index_if(alloc: Global, board: &Board) -> Result<Option<TileIndex>, AllocErro
 }
 
 /// The facts of all items of the board, by id. Each is asked only against the areas and bodies near it, and the class of each
-/// net is found once. Only want of memory refuses it.
+/// net is found once. Only running out of memory refuses it.
 pub fn all_facts(alloc: Global, board: &Board, classes: &Classes) -> Result<FactsById, AllocError>
     ensures { IfOk result (HasFacts board.now classes.now) }
 {
     let index = index_if(alloc, board)?;
-    let mut all = FactsById::with_room(alloc, slots_of(board))?;
+    let mut all = FactsById::with_reserved(alloc, slots_of(board))?;
     put_all(alloc, board, classes, index.as_ref(), &mut all)?;
     Ok(all)
 }

@@ -1,7 +1,7 @@
 //! The class of an item's net.
 
 ghost use Rattle.std.specs.Prelude.{◌≡◌};
-ghost use Rattle.net_class.specs.Views.{plain_class};
+ghost use Rattle.net_class.specs.ClassValues.{plain_class};
 ghost use Rattle.rule_pick.specs.FactsOf.{class_of_net};
 
 use board_items::Board;

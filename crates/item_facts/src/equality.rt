@@ -1,7 +1,7 @@
 //! Facts that are the same.
 
 ghost use Rattle.std.specs.Prelude.{◌≡◌, IsTrue, ◌↔◌};
-ghost use Rattle.item_facts.specs.Same.{HaveSameNames, HaveSameLengths, HaveSameKind, HaveSameMarks, HaveSameMeetings};
+ghost use Rattle.item_facts.specs.EqualFacts.{HaveSameNames, HaveSameLengths, HaveSameKind, HaveSameMarks, HaveSameMeetings};
 
 use drc_io::Name;
 use rule_pick::Facts;

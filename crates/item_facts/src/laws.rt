@@ -3,15 +3,15 @@
 ghost use Rattle.std.specs.Prelude.{◌≡◌, ◌⊎◌, ℕ, Bool, List};
 ghost use Rattle.board_items.specs.declared.item.Item.{Item};
 ghost use Rattle.board_items.specs.Boards.{PlainBoard};
-ghost use Rattle.net_class.specs.Classes.{PlainClasses};
+ghost use Rattle.net_class.specs.NetClasses.{PlainClasses};
 ghost use Rattle.rule_pick.specs.declared.facts.Facts.{Facts};
 ghost use Rattle.rule_pick.specs.FactsOf.{MeetsArea, MeetsCourtyard, AreFactsOf};
-ghost use Rattle.item_facts.specs.Near.{IsNear, IsNearSame};
+ghost use Rattle.item_facts.specs.NearItems.{MayMeetItem, IsNearSame};
 
 /// What an item meets of an area or of courtyards is near it: their boxes meet.
 pub fn met_is_near()
     ensures { (item other : Item) (name : List ℕ) → MeetsArea item other.what name
-        ⊎ MeetsCourtyard item other.what name → IsNear item other }
+        ⊎ MeetsCourtyard item other.what name → MayMeetItem item other }
 {}
 
 /// The facts of an item depend on the areas and courtyards near it alone: on two boards with the same nets it has the same facts,

@@ -3,8 +3,8 @@
 ghost use Rattle.std.specs.Prelude.{◌≡◌, ◌++◌, IfOk, OnOk};
 ghost use Rattle.std.specs.Option.{option_copied};
 ghost use Rattle.rule_pick.specs.FactsOf.{MeetsArea, MeetsCourtyard, AreNamesOf};
-ghost use Rattle.item_facts.specs.Fronts.{name_if};
-ghost use Rattle.item_facts.specs.Near.{AreEnough};
+ghost use Rattle.item_facts.specs.FoundNames.{name_if};
+ghost use Rattle.item_facts.specs.NearItems.{AreEnough};
 
 use crate::meets::{area_met, courtyard_met};
 use board_items::{Board, Item};

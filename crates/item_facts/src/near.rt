@@ -3,10 +3,10 @@
 ghost use Rattle.std.specs.Prelude.{◌≡◌, [], filter, IfOk, OnOk, IfSome};
 ghost use Rattle.geo_seg.specs.Boxes.{FitsIndex};
 ghost use Rattle.board_items.specs.Boards.{IsSound, is_mark, marks_of};
-ghost use Rattle.board_items.specs.Parts.{parts_of};
+ghost use Rattle.board_items.specs.ItemParts.{parts_of};
 ghost use Rattle.board_items.specs.Extents.{AreBoundsOf};
 ghost use Rattle.box_index.specs.Tiles.{IsAbsent};
-ghost use Rattle.item_facts.specs.Near.{is_mark_of, HoldsMarks, IsMarked, AreEnough};
+ghost use Rattle.item_facts.specs.NearItems.{is_mark_of, HoldsMarks, IsMarked, AreEnough};
 
 use board_items::{Board, Item, What};
 use box_index::{LANES, TileIndex, push_ids_near, put_in_order};
@@ -41,7 +41,7 @@ fn put_mark(index: &mut TileIndex, id: u32, item: &Item) -> Result<(), AllocErro
     }
 }
 
-/// An index of the areas and bodies of the board, by their bounds. Only want of memory refuses it.
+/// An index of the areas and bodies of the board, by their bounds. Only running out of memory refuses it.
 pub fn index_marks(alloc: Global, board: &Board) -> Result<TileIndex, AllocError>
     ensures { IfOk result (λ index. HoldsMarks board.now.items index) }
 {
@@ -101,7 +101,7 @@ fn push_marks(board: &Board, ids: &mut Vec<u32>) -> Result<(), AllocError>
 /// Leaves in `ids` those of the areas and bodies whose boxes meet that of the item, and maybe others; rising. An item without
 /// bounds meets none. Where its box meets more tiles than the board has areas and bodies, they are all of these.
 ///
-/// The index has all areas and bodies of the board, and may have other items. What `ids` had before is let go first. Only want of
+/// The index has all areas and bodies of the board, and may have other items. What `ids` had before is let go first. Only running out of
 /// memory refuses it, and `ids` is then of no use.
 pub fn marks_near(
     board: &Board,

@@ -2,8 +2,8 @@
 
 ghost use Rattle.std.specs.Prelude.{◌≡◌, [], unwrap_or, IfOk};
 ghost use Rattle.board_items.specs.Boards.{name_of};
-ghost use Rattle.net_class.specs.Classes.{PlainClasses};
-ghost use Rattle.net_class.specs.Views.{plain_class};
+ghost use Rattle.net_class.specs.NetClasses.{PlainClasses};
+ghost use Rattle.net_class.specs.ClassValues.{plain_class};
 ghost use Rattle.rule_pick.specs.FactsOf.{MeetsArea, MeetsCourtyard, AreNamesOf, class_of_net, AreFactsOf};
 
 use crate::kinds::{

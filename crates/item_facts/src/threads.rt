@@ -3,12 +3,12 @@
 ghost use Rattle.std.specs.Prelude.{◌≡◌, ◌<◌, true, ℕ, length, Some, IsSome, IfOk, IfSome};
 ghost use Rattle.board_items.specs.declared.item.Item.{Item as PlainItem};
 ghost use Rattle.board_items.specs.Boards.{item_at};
-ghost use Rattle.net_class.specs.Views.{plain_class};
+ghost use Rattle.net_class.specs.ClassValues.{plain_class};
 ghost use Rattle.rule_pick.specs.AllFacts.{HasFacts};
 ghost use Rattle.rule_pick.specs.ById.{facts_at};
 ghost use Rattle.rule_pick.specs.FactsOf.{AreFactsOf, AreFacts, class_of_net};
 ghost use Rattle.item_facts.specs.Known.{AreKnown};
-ghost use Rattle.item_facts.specs.Slots.{AreReady, AreEmpty, AreFilled};
+ghost use Rattle.item_facts.specs.FactSlots.{AreReady, AreEmpty, AreFilled};
 
 use crate::all::{all_facts, facts_among, known_class};
 use crate::classes::class_of_net;
@@ -77,7 +77,7 @@ fn facts_of(sources: &Sources<'_, '_>, item: &Item) -> Result<Facts, AllocError>
     facts_among(sources.alloc, sources.board, class, item, &ids)
 }
 
-/// The facts of the item of an id; none where there is no such item, or memory is wanting.
+/// The facts of the item of an id; none where there is no such item, or memory runs out.
 fn facts_of_id(sources: &Sources<'_, '_>, id: u32) -> Option<Facts>
     requires { AreReady sources.now }
     ensures { IfSome result (AreFacts sources.now.board.now sources.now.classes.now id) }
@@ -152,7 +152,7 @@ fn facts_of_all(
 }
 
 /// The facts of all items of the board, by id: with one worker, or for few items, as `all_facts` finds them, and else by as many threads
-/// as there are processors. Only want of memory refuses it.
+/// as there are processors. Only running out of memory refuses it.
 pub fn all_facts_by(
     rt: &(impl Threads + Sync),
     alloc: Global,

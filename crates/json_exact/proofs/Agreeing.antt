@@ -3,13 +3,13 @@ use Rattle.std.proofs.Common.{◌≡◌, ◌≢◌, ℕ, suc, ◌+◌, ◌-◌, 
 use Rattle.std.proofs.lemmas.Bool.{eqb-false, cases_lt}
 use Rattle.json_exact.specs.Json.{Json}
 use Rattle.json_exact.specs.Characters.{Way, refused, whole, steps, AreCharacters}
-use Rattle.json_exact.specs.Reading.{Limit, Counts}
+use Rattle.json_exact.specs.JsonRests.{Limit, Counts}
 use Rattle.json_exact.proofs.Walks.{steps-append, steps-refused}
 use Rattle.std.specs.Prelude.{slice_range, slice_index}
 use Rattle.std.proofs.lemmas.List.{take_all}
 use Rattle.json_exact.specs.JsonText.{SpelledWithin}
-use Rattle.json_exact.specs.Refusals.{depth_limit, CanGoOn, Stops, IsSurrogate, IsAlone, IsBad}
-use Rattle.json_exact.specs.Reading.{Agrees}
+use Rattle.json_exact.specs.JsonRefusals.{depth_limit, CanGoOn, Stops, IsSurrogate, IsAlone, IsBad}
+use Rattle.json_exact.specs.JsonRests.{Agrees}
 use Rattle.json_exact.specs.Scans.{IsHalf, StopsString, CountsString, EndsString}
 use Rattle.json_exact.proofs.Ways.{tidy_steps, no_letter_inside}
 use Rattle.json_exact.proofs.Ranges.{up_to_with, up_to, length_range, range_more, range_first, range_split, range_byte}

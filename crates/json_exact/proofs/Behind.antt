@@ -5,14 +5,14 @@ use Rattle.std.proofs.lemmas.List.{append-nil}
 use Rattle.json_exact.specs.Json.{Bracket, square, curly, Name, Json, Parts, no_parts, part}
 use Rattle.json_exact.specs.Scans.{is_in_number}
 use Rattle.json_exact.specs.JsonText.{is_blank, AreBlanks, closing}
-use Rattle.json_exact.specs.Reading.{Frame, Behind, Before, BeforeName, closed, onto, Limit, any, no_number, no_closing, Counts}
+use Rattle.json_exact.specs.JsonRests.{Frame, Behind, Before, BeforeName, closed, onto, Limit, any, no_number, no_closing, Counts}
 use Rattle.json_exact.proofs.Blanks.{no_blanks}
 use Rattle.json_exact.proofs.Steps.{frame, behind_clear}
 use Rattle.std.specs.Prelude.{slice_range, slice_index}
 use Rattle.json_exact.specs.JsonText.{SpelledWithin}
-use Rattle.json_exact.specs.Refusals.{depth_limit, IsBad}
+use Rattle.json_exact.specs.JsonRefusals.{depth_limit, IsBad}
 use Rattle.json_exact.specs.Scans.{PassesBlanks}
-use Rattle.json_exact.specs.Reading.{Agrees, IsClear, Holds, ReadsValue, ReadsName, ReadsBehind, Closes, kind_of_bracket, cell, cells_of, cells_in, cells_done, name_cells, open_cells, top_of}
+use Rattle.json_exact.specs.JsonRests.{Agrees, IsClear, Holds, ReadsValue, ReadsName, ReadsBehind, Closes, kind_of_bracket, cell, cells_of, cells_in, cells_done, name_cells, open_cells, top_of}
 use Rattle.json_exact.specs.declared.reader.Reader.{Reader}
 use Rattle.json_exact.specs.declared.cells.Cell.{Cell}
 use Rattle.json_exact.proofs.Ranges.{range_first}
@@ -24,7 +24,7 @@ use Rattle.json_exact.proofs.Agreeing.{advance}
 use Rattle.json_exact.proofs.Tokens.{blanks_plain, plain_part, other_halts, end_halts, bad_at}
 use Rattle.json_exact.proofs.Steps.{closing_clear}
 use Rattle.json_exact.proofs.Onward.{close_cells, cells_onto}
-use Rattle.json_exact.specs.Reading.{IsRead}
+use Rattle.json_exact.specs.JsonRests.{IsRead}
 use Rattle.std.proofs.lemmas.List.{take_all}
 use Rattle.json_exact.proofs.Turns.{advance_one, closing_plain}
 

@@ -3,10 +3,10 @@ use Rattle.std.proofs.Common.{◌≡◌, ◌≢◌, ℕ, List, [], ◌∷◌, �
 use Rattle.std.specs.Prelude.{◌==◌}
 use Rattle.std.proofs.lemmas.Bool.{or_cases, eqb-true, both_ways}
 use Rattle.json_exact.specs.Json.{null_word, true_word, false_word, Leaf, word, number, string, Bracket, square, curly, Name, Json, leaf, nest, Parts, no_parts, part}
-use Rattle.json_exact.specs.Numbers.{is_digit}
+use Rattle.json_exact.specs.JsonNumbers.{is_digit}
 use Rattle.json_exact.specs.Scans.{is_in_number, then, written, may_end}
 use Rattle.json_exact.specs.JsonText.{is_blank, AreBlanks, Blanks, IsLeaf, SpellsLeaf, opening, closing, SpellsPart, Spells, SpellsFirst, SpellsMore}
-use Rattle.json_exact.specs.Reading.{Frame, Behind, Before, Opened, BeforeName, BeforeColon}
+use Rattle.json_exact.specs.JsonRests.{Frame, Behind, Before, Opened, BeforeName, BeforeColon}
 use Rattle.json_exact.specs.declared.scan.Last.{Last}
 use Rattle.json_exact.specs.declared.scan.Last.TheVariants.{Nothing, Minus, Zero, Whole, Misplaced}
 use Rattle.json_exact.proofs.Digits.{number_ends, ends_placed, written-misplaced}
@@ -19,21 +19,21 @@ Firm (b ∷ t) = is_blank b ≡ false
 pub no_blanks : (t : List ℕ) → Blanks t t
 no_blanks t = ([], tt, refl)
 
-front_none : (bs : List ℕ) (b : ℕ) (t s : List ℕ) → is_blank b ≡ false → AreBlanks bs → b ∷ t ≡ bs ++ s → s ≡ b ∷ t
-front_none [] b t s f h e = sym e
-front_none (c ∷ bs) b t s f h e =
+prefix_none : (bs : List ℕ) (b : ℕ) (t s : List ℕ) → is_blank b ≡ false → AreBlanks bs → b ∷ t ≡ bs ++ s → s ≡ b ∷ t
+prefix_none [] b t s f h e = sym e
+prefix_none (c ∷ bs) b t s f h e =
     let first : c ≡ b = cc in
     absurd (both_ways (is_blank b) f (subst (λ (x : ℕ). is_blank x ≡ true) first h.0))
 
-pub firm_front : (b : ℕ) (t s : List ℕ) → is_blank b ≡ false → Blanks (b ∷ t) s → s ≡ b ∷ t
-firm_front b t s f h = front_none h.0 b t s f h.1 h.2
+pub firm_prefix : (b : ℕ) (t s : List ℕ) → is_blank b ≡ false → Blanks (b ∷ t) s → s ≡ b ∷ t
+firm_prefix b t s f h = prefix_none h.0 b t s f h.1 h.2
 
 nothing_left : (bs s : List ℕ) → [] ≡ bs ++ s → s ≡ []
 nothing_left [] s e = sym e
 nothing_left (b ∷ bs) s e = cc
 
-pub nothing_front : (s : List ℕ) → Blanks [] s → s ≡ []
-nothing_front s h = nothing_left h.0 s h.2
+pub nothing_prefix : (s : List ℕ) → Blanks [] s → s ≡ []
+nothing_prefix s h = nothing_left h.0 s h.2
 
 pass : (ws bs t s : List ℕ) → AreBlanks ws → AreBlanks bs → Firm s → ws ++ t ≡ bs ++ s → Blanks t s
 pass [] bs t s h k f e = (bs, k, e)

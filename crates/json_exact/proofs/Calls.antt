@@ -6,9 +6,9 @@ use Rattle.json_exact.specs.contracts.cells.Kind.{the_type}
 use Rattle.std.specs.Prelude.{slice_index}
 use Rattle.json_exact.specs.Json.{Bracket, square, curly, Name, Json}
 use Rattle.json_exact.specs.JsonText.{closing, SpelledWithin, Spells}
-use Rattle.json_exact.specs.Refusals.{depth_limit, IsBad}
+use Rattle.json_exact.specs.JsonRefusals.{depth_limit, IsBad}
 use Rattle.json_exact.specs.Scans.{PassesBlanks}
-use Rattle.json_exact.specs.Reading.{Frame, levels_left, Agrees, ReadsValue, ReadsValueHere, ReadsName, ReadsNameHere, ReadsFirst, ReadsBehind, Reads, Closes, any, closing_of, kind_of_bracket, cells_of, Before, Opened, Behind, IsRead, finished}
+use Rattle.json_exact.specs.JsonRests.{Frame, levels_left, Agrees, ReadsValue, ReadsValueHere, ReadsName, ReadsNameHere, ReadsFirst, ReadsBehind, Reads, Closes, any, closing_of, kind_of_bracket, cells_of, Before, Opened, Behind, IsRead, finished}
 use Rattle.json_exact.specs.declared.reader.Reader.{Reader}
 use Rattle.json_exact.specs.declared.reader.Next.{Next}
 use Rattle.json_exact.specs.declared.reader.Next.TheVariants.{Value, First, After}

@@ -7,10 +7,10 @@ use Rattle.std.proofs.lemmas.List.{take_at, drop_at, length-drop, take_all, take
 use Rattle.std.specs.Prelude.{slice_range}
 use Rattle.json_exact.specs.Json.{null_word, true_word, false_word, Leaf, word, number, string, Bracket, square, curly, Name, Json, leaf, nest, Parts, no_parts, part, values, items, member, first_named}
 use Rattle.json_exact.specs.Characters.{decoded}
-use Rattle.json_exact.specs.Bytes.{same_bytes}
+use Rattle.json_exact.specs.ByteComparisons.{same_bytes}
 use Rattle.json_exact.specs.JsonText.{Blanks, SpelledWithin, SpellsLeaf, Spells, SpellsFirst, SpellsMore, SpellsPart, opening, closing}
-use Rattle.json_exact.specs.Reading.{kind_of, kind_of_bracket, cell, cells_of, cells_in}
-use Rattle.json_exact.specs.Cells.{node, node_of, name_of, parts_of, all_parts, first_value, own_cells, other_cells, first_kind, first_inside}
+use Rattle.json_exact.specs.JsonRests.{kind_of, kind_of_bracket, cell, cells_of, cells_in}
+use Rattle.json_exact.specs.JsonCells.{node, node_of, name_of, parts_of, all_parts, first_value, own_cells, other_cells, first_kind, first_inside}
 use Rattle.json_exact.specs.declared.cells.Cell.{Cell}
 use Rattle.json_exact.specs.declared.cells.Kind.{Kind}
 use Rattle.json_exact.specs.declared.cells.Kind.TheVariants.{Null, True, False, Number, String, List as AList, Object}
@@ -66,18 +66,18 @@ enough (suc n) (suc m) text curly (d ∷ c ∷ cs) h k =
 pub Suffix : List ℕ → List ℕ → Type 0
 Suffix text s = (p : List ℕ) × (text ≡ p ++ s)
 
-after_front : (text q s t : List ℕ) → Suffix text s → s ≡ q ++ t → Suffix text t
+after_prefix : (text q s t : List ℕ) → Suffix text s → s ≡ q ++ t → Suffix text t
 unfolding Suffix
-after_front text q s t (p, e) f = (p ++ q, e ∙ ap (λ (x : List ℕ). p ++ x) f ∙ sym (append_assoc p q t))
+after_prefix text q s t (p, e) f = (p ++ q, e ∙ ap (λ (x : List ℕ). p ++ x) f ∙ sym (append_assoc p q t))
 
 pub after_blanks : (text s t : List ℕ) → Suffix text s → Blanks s t → Suffix text t
-after_blanks text s t h b = after_front text b.0 s t h b.2
+after_blanks text s t h b = after_prefix text b.0 s t h b.2
 
 pub after_byte : (text s t : List ℕ) (c : ℕ) → Suffix text s → s ≡ c ∷ t → Suffix text t
-after_byte text s t c h e = after_front text (c ∷ []) s t h e
+after_byte text s t c h e = after_prefix text (c ∷ []) s t h e
 
 pub after_leaf : (text : List ℕ) (n : ℕ) (l : Leaf) (from to : ℕ) (s t : List ℕ) → Suffix text s → SpellsLeaf n l from to s t → Suffix text t
-after_leaf text n l from to s t h sp = after_front text sp.0 s t h sp.2
+after_leaf text n l from to s t h sp = after_prefix text sp.0 s t h sp.2
 
 pub after_part : (text : List ℕ) (n : ℕ) (b : Bracket) (name : Option Name) (spells : List ℕ → List ℕ → Type 0) → ((s t : List ℕ) → spells s t → Suffix text s → Suffix text t)
     → (s t : List ℕ) → Suffix text s → SpellsPart n b name spells s t → Suffix text t

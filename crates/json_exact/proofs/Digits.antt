@@ -3,7 +3,7 @@ use Rattle.std.proofs.Common.{◌≡◌, ◌≢◌, ℕ, ◌<◌, ◌≤◌, Lis
 use Rattle.std.proofs.lemmas.Bool.{or_cases, or_parts, and_parts, and_from, eqb-true, eqb-false, leb-true, le-leb, ne_eqb, both_ways}
 use Rattle.std.specs.Prelude.{◌==◌}
 use Rattle.json_exact.specs.Characters.{within}
-use Rattle.json_exact.specs.Numbers.{is_digit, AreDigits, IsWholePart, IsFraction, is_mark, IsSign, IsExponent, IsNumber}
+use Rattle.json_exact.specs.JsonNumbers.{is_digit, AreDigits, IsWholePart, IsFraction, is_mark, IsSign, IsExponent, IsNumber}
 use Rattle.json_exact.specs.Scans.{is_sign, is_in_number, then, written, may_end}
 use Rattle.json_exact.specs.declared.scan.Last.{Last}
 use Rattle.json_exact.specs.declared.scan.Last.TheVariants.{Nothing, Minus, Zero, Whole, Point, Fraction, Mark, Sign, Exponent, Misplaced}

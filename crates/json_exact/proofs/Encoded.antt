@@ -8,7 +8,7 @@ use lib.Utf8.{encode, scalar}
 use Rattle.json_exact.specs.Characters.{Way, refused, whole, one, tail, two_digits, low_half, surrogate, digits, escape, steps, within, is_plain, is_d, is_hex, is_high_digit, is_low_digit, is_short, AreCharacters, decoded, decoded_behind, hex_value, code_unit, is_high_surrogate, surrogate_pair, short_value}
 use Rattle.json_exact.proofs.Walks.{steps-refused}
 use Rattle.json_exact.proofs.Scanning.{on, off}
-use Rattle.json_exact.proofs.Fronts.{one_byte, two_bytes, three_bytes, four_bytes}
+use Rattle.json_exact.proofs.Prefixes.{one_byte, two_bytes, three_bytes, four_bytes}
 
 -- a first character, what it stands for, and what is left
 pub record Leads (raw : List ℕ) : Type 0 where
@@ -105,10 +105,10 @@ utf8_two b t h k l m =
     (sym (ap (λ (x : ℕ). x ∷ (128 + c % 64) ∷ []) e1 ∙ ap (λ (x : ℕ). b ∷ x ∷ []) e2) ∙ two_bytes c (omega arith) (omega arith))
 
 -- a character of three or four bytes without its last one or two sets of six bits
-abbrev front_bits : ℕ → ℕ → ℕ → ℕ
-front_bits base b t = (b - base) * 64 + (t - 128)
+abbrev prefix_bits : ℕ → ℕ → ℕ → ℕ
+prefix_bits base b t = (b - base) * 64 + (t - 128)
 
-utf8_three : (b t u : ℕ) → 224 ≤ b → b ≤ 239 → 128 ≤ t → t ≤ 191 → 128 ≤ u → u ≤ 191 → 32 ≤ front_bits 224 b t → ((front_bits 224 b t < 864) ⊎ (896 ≤ front_bits 224 b t)) → IsUtf8 (b ∷ t ∷ u ∷ [])
+utf8_three : (b t u : ℕ) → 224 ≤ b → b ≤ 239 → 128 ≤ t → t ≤ 191 → 128 ≤ u → u ≤ 191 → 32 ≤ prefix_bits 224 b t → ((prefix_bits 224 b t < 864) ⊎ (896 ≤ prefix_bits 224 b t)) → IsUtf8 (b ∷ t ∷ u ∷ [])
 utf8_three b t u h k l m l' m' n o =
     let c : ℕ = (b - 224) * 4096 + ((t - 128) * 64 + (u - 128)) in
     let e1 : 224 + c / 4096 ≡ b = omega arith in
@@ -119,7 +119,7 @@ utf8_three b t u h k l m l' m' n o =
     (sym (ap (λ (x : ℕ). x ∷ (128 + c / 64 % 64) ∷ (128 + c % 64) ∷ []) e1 ∙ ap (λ (x : ℕ). b ∷ x ∷ (128 + c % 64) ∷ []) e2 ∙ ap (λ (x : ℕ). b ∷ t ∷ x ∷ []) e3)
     ∙ three_bytes c (omega arith) (omega arith))
 
-utf8_four : (b t u v : ℕ) → 240 ≤ b → b ≤ 244 → 128 ≤ t → t ≤ 191 → 128 ≤ u → u ≤ 191 → 128 ≤ v → v ≤ 191 → 16 ≤ front_bits 240 b t → front_bits 240 b t < 272 → IsUtf8 (b ∷ t ∷ u ∷ v ∷ [])
+utf8_four : (b t u v : ℕ) → 240 ≤ b → b ≤ 244 → 128 ≤ t → t ≤ 191 → 128 ≤ u → u ≤ 191 → 128 ≤ v → v ≤ 191 → 16 ≤ prefix_bits 240 b t → prefix_bits 240 b t < 272 → IsUtf8 (b ∷ t ∷ u ∷ v ∷ [])
 utf8_four b t u v h k l m l' m' l'' m'' n o =
     let c : ℕ = (b - 240) * 262144 + ((t - 128) * 4096 + ((u - 128) * 64 + (v - 128))) in
     let e1 : 240 + c / 262144 ≡ b = omega arith in
@@ -153,7 +153,7 @@ leads_two b q h e =
       goes_on = t.on;
     })
 
-leads_three : (test : ℕ → Bool) (b : ℕ) (q : List ℕ) → 224 ≤ b → b ≤ 239 → ((t : ℕ) → test t ≡ true → (128 ≤ t) × (t ≤ 191) × (32 ≤ front_bits 224 b t) × ((front_bits 224 b t < 864) ⊎ (896 ≤ front_bits 224 b t)))
+leads_three : (test : ℕ → Bool) (b : ℕ) (q : List ℕ) → 224 ≤ b → b ≤ 239 → ((t : ℕ) → test t ≡ true → (128 ≤ t) × (t ≤ 191) × (32 ≤ prefix_bits 224 b t) × ((prefix_bits 224 b t < 864) ⊎ (896 ≤ prefix_bits 224 b t)))
     → steps (one test (tail whole)) q ≡ whole → Leads (b ∷ q)
 leads_three test b q h k range e =
     let t : Taken test (tail whole) q = taken test (tail whole) q e in
@@ -170,7 +170,7 @@ leads_three test b q h k range e =
       goes_on = u.on;
     })
 
-leads_four : (test : ℕ → Bool) (b : ℕ) (q : List ℕ) → 240 ≤ b → b ≤ 244 → ((t : ℕ) → test t ≡ true → (128 ≤ t) × (t ≤ 191) × (16 ≤ front_bits 240 b t) × (front_bits 240 b t < 272))
+leads_four : (test : ℕ → Bool) (b : ℕ) (q : List ℕ) → 240 ≤ b → b ≤ 244 → ((t : ℕ) → test t ≡ true → (128 ≤ t) × (t ≤ 191) × (16 ≤ prefix_bits 240 b t) × (prefix_bits 240 b t < 272))
     → steps (one test (tail (tail whole))) q ≡ whole → Leads (b ∷ q)
 leads_four test b q h k range e =
     let t : Taken test (tail (tail whole)) q = taken test (tail (tail whole)) q e in

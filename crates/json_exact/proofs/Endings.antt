@@ -5,7 +5,7 @@ use Rattle.json_exact.specs.Json.{Word, Leaf, word, number, string, Json, leaf, 
 use Rattle.json_exact.specs.Characters.{refused, whole, steps, AreCharacters, decoded}
 use Rattle.json_exact.specs.Scans.{written, may_end}
 use Rattle.json_exact.specs.JsonText.{letters, IsLeaf, closing}
-use Rattle.json_exact.specs.Reading.{Frame, Behind, Before, Opened, BeforeName, BeforeColon, closed, no_number, Counts}
+use Rattle.json_exact.specs.JsonRests.{Frame, Behind, Before, Opened, BeforeName, BeforeColon, closed, no_number, Counts}
 use Rattle.json_exact.specs.declared.scan.Last.TheVariants.{Nothing, Misplaced}
 use Rattle.json_exact.proofs.Walks.{steps-append}
 use Rattle.json_exact.proofs.Digits.{is_number, written-append, has_digits}
@@ -47,11 +47,11 @@ opened_ends d at f fs =
           (subst (λ (n : ℕ). Behind d n fs (closed f (suc at) no_parts) i.rest i.value) len i.ends);
     }
 
--- behind a front that is begun
-pub record EndsBehind (d at : ℕ) (front : List ℕ) (Rest : ℕ → ℕ → List ℕ → Json → Type 0) : Type 0 where
+-- behind a prefix that is begun
+pub record EndsBehind (d at : ℕ) (prefix : List ℕ) (Rest : ℕ → ℕ → List ℕ → Json → Type 0) : Type 0 where
   pub rest : List ℕ
   pub value : Json
-  pub ends : Rest d (at + length (front ++ rest)) (front ++ rest) value
+  pub ends : Rest d (at + length (prefix ++ rest)) (prefix ++ rest) value
 
 -- a whole leaf
 leaf_ends : (d at : ℕ) (fs : List Frame) (l : Leaf) (bytes : List ℕ) → IsLeaf l bytes → EndsBehind d at bytes (λ e n. Before e n fs)
@@ -65,18 +65,18 @@ leaf_ends d at fs l bytes h =
           (subst (λ (n : ℕ). Behind d n fs (leaf l at (at + length bytes)) i.rest i.value) len i.ends);
     }
 
-pub shifted : (d at : ℕ) (front more : List ℕ) (Rest : ℕ → ℕ → List ℕ → Json → Type 0) → EndsBehind d at (front ++ more) Rest → EndsBehind d at front Rest
-shifted d at front more Rest i =
-    let e : (front ++ more) ++ i.rest ≡ front ++ (more ++ i.rest) = append_assoc front more i.rest in
+pub shifted : (d at : ℕ) (prefix more : List ℕ) (Rest : ℕ → ℕ → List ℕ → Json → Type 0) → EndsBehind d at (prefix ++ more) Rest → EndsBehind d at prefix Rest
+shifted d at prefix more Rest i =
+    let e : (prefix ++ more) ++ i.rest ≡ prefix ++ (more ++ i.rest) = append_assoc prefix more i.rest in
     record { rest = more ++ i.rest; value = i.value; ends = subst (λ (q : List ℕ). Rest d (at + length q) q i.value) e i.ends }
 
-pub same_front : (d at : ℕ) (front other : List ℕ) (Rest : ℕ → ℕ → List ℕ → Json → Type 0) → front ≡ other → EndsBehind d at front Rest → EndsBehind d at other Rest
-same_front d at front other Rest e i = record { rest = i.rest; value = i.value; ends = subst (λ (q : List ℕ). Rest d (at + length (q ++ i.rest)) (q ++ i.rest) i.value) e i.ends }
+pub same_prefix : (d at : ℕ) (prefix other : List ℕ) (Rest : ℕ → ℕ → List ℕ → Json → Type 0) → prefix ≡ other → EndsBehind d at prefix Rest → EndsBehind d at other Rest
+same_prefix d at prefix other Rest e i = record { rest = i.rest; value = i.value; ends = subst (λ (q : List ℕ). Rest d (at + length (q ++ i.rest)) (q ++ i.rest) i.value) e i.ends }
 
 pub word_ends : (d at : ℕ) (fs : List Frame) (w : Word) (i : ℕ) → EndsBehind d at (take i (letters w)) (λ e n. Before e n fs)
 word_ends d at fs w i =
     shifted d at (take i (letters w)) (drop i (letters w)) (λ e n. Before e n fs)
-    (same_front d at (letters w) (take i (letters w) ++ drop i (letters w)) (λ e n. Before e n fs) (sym (take-append-drop i (letters w))) (leaf_ends d at fs (word w) (letters w) refl))
+    (same_prefix d at (letters w) (take i (letters w) ++ drop i (letters w)) (λ e n. Before e n fs) (sym (take-append-drop i (letters w))) (leaf_ends d at fs (word w) (letters w) refl))
 
 pub number_ends_so : (d at : ℕ) (fs : List Frame) (p : List ℕ) → written Nothing p ≢ Misplaced → EndsBehind d at p (λ e n. Before e n fs)
 number_ends_so d at fs p alive =
@@ -109,7 +109,7 @@ pub string_ends : (d at : ℕ) (fs : List Frame) (p : List ℕ) → steps whole 
 string_ends d at fs p alive =
     let q = characters_end p alive in
     let l = leaf_ends d at fs (string (decoded (p ++ q.0))) (34 ∷ (p ++ q.0) ++ 34 ∷ []) (p ++ q.0, q.1, refl, refl) in
-    shifted d at (34 ∷ p) (q.0 ++ 34 ∷ []) (λ e n. Before e n fs) (same_front d at (34 ∷ (p ++ q.0) ++ 34 ∷ []) ((34 ∷ p) ++ (q.0 ++ 34 ∷ [])) (λ e n. Before e n fs) (quoted p q.0) l)
+    shifted d at (34 ∷ p) (q.0 ++ 34 ∷ []) (λ e n. Before e n fs) (same_prefix d at (34 ∷ (p ++ q.0) ++ 34 ∷ []) ((34 ∷ p) ++ (q.0 ++ 34 ∷ [])) (λ e n. Before e n fs) (quoted p q.0) l)
 
 pub name_ends : (d at : ℕ) (f : Frame) (fs : List Frame) (p : List ℕ) → steps whole p ≢ refused → EndsBehind d at (34 ∷ p) (λ e n. BeforeName e n f fs)
 name_ends d at f fs p alive =
@@ -125,4 +125,4 @@ name_ends d at f fs p alive =
       ends = name_back d (at + length (bytes ++ i.rest)) f fs raw at to i.rest i.value q.1 refl len
           (subst (λ (n : ℕ). BeforeColon d n (record f { name = Some (record { from = at; to = to; text = decoded raw }) } ∷ fs) i.rest i.value) len i.ends);
     } in
-    shifted d at (34 ∷ p) (q.0 ++ 34 ∷ []) (λ e n. BeforeName e n f fs) (same_front d at bytes ((34 ∷ p) ++ (q.0 ++ 34 ∷ [])) (λ e n. BeforeName e n f fs) (quoted p q.0) b)
+    shifted d at (34 ∷ p) (q.0 ++ 34 ∷ []) (λ e n. BeforeName e n f fs) (same_prefix d at bytes ((34 ∷ p) ++ (q.0 ++ 34 ∷ [])) (λ e n. BeforeName e n f fs) (quoted p q.0) b)

@@ -4,14 +4,14 @@ use Rattle.std.proofs.lemmas.Bool.{both_ways, eqb-false, eqb-true}
 use Rattle.std.proofs.lemmas.List.{append-nil}
 use Rattle.json_exact.specs.Json.{Word, null_word, true_word, false_word, Leaf, word, number, string, Bracket, square, curly, Name, Json, leaf}
 use Rattle.json_exact.specs.Characters.{whole, AreCharacters, decoded}
-use Rattle.json_exact.specs.Numbers.{is_digit, IsNumber}
+use Rattle.json_exact.specs.JsonNumbers.{is_digit, IsNumber}
 use Rattle.json_exact.specs.Scans.{is_in_number, written, may_end}
 use Rattle.json_exact.specs.JsonText.{Blanks, letters, IsLeaf, opening}
-use Rattle.json_exact.specs.Reading.{Frame, Behind, Before, BeforeName, BeforeColon, Limit, any, no_number, Counts}
+use Rattle.json_exact.specs.JsonRests.{Frame, Behind, Before, BeforeName, BeforeColon, Limit, any, no_number, Counts}
 use Rattle.json_exact.specs.declared.scan.Last.TheVariants.{Nothing, Misplaced}
 use Rattle.json_exact.proofs.Walks.{characters_unique}
 use Rattle.json_exact.proofs.Digits.{number_ends, in_number, ends_placed, number_stuck, not_in_number}
-use Rattle.json_exact.proofs.Blanks.{no_blanks, firm_front, Starts, leaf_starts, start_firm}
+use Rattle.json_exact.proofs.Blanks.{no_blanks, firm_prefix, Starts, leaf_starts, start_firm}
 use Rattle.json_exact.proofs.Steps.{LeafFound, leaf_found, behind_clear}
 
 pub cancel : (p s t : List ℕ) → p ++ s ≡ p ++ t → s ≡ t
@@ -143,7 +143,7 @@ leaf_into d n fs l bytes from to t v h free p q bf =
     let whole' : bytes ++ t ≡ c ∷ (st.1 ++ t) = ap (λ (x : List ℕ). x ++ t) st.2 in
     let f : LeafFound d n fs c (st.1 ++ t) v = leaf_found d n fs c (st.1 ++ t) v (start_firm l c st.3) (leaf_not_opening l c st.3) (subst (λ (x : List ℕ). Before d n fs x v) whole' bf) in
     let cl : class l ≡ class f.leaf' = sym (class_starts l c st.3) ∙ class_starts f.leaf' c f.starts in
-    let same : (l ≡ f.leaf') × (t ≡ f.rest) = leaf_same l f.leaf' bytes f.bytes t f.rest cl h f.is_leaf free (behind_clear d n fs _ f.rest v f.behind) (whole' ∙ f.front) in
+    let same : (l ≡ f.leaf') × (t ≡ f.rest) = leaf_same l f.leaf' bytes f.bytes t f.rest cl h f.is_leaf free (behind_clear d n fs _ f.rest v f.behind) (whole' ∙ f.prefix) in
     let len : from + length (c ∷ (st.1 ++ t)) ≡ n = subst (λ (x : List ℕ). from + length x ≡ n) whole' p in
     let begins : f.from + length (c ∷ (st.1 ++ t)) ≡ n = f.begins in
     let a : f.from ≡ from = omega arith in
@@ -165,7 +165,7 @@ pub name_into : (d n : ℕ) (f : Frame) (fs : List Frame) (raw : List ℕ) (from
     → from + length ((34 ∷ raw ++ 34 ∷ []) ++ t) ≡ n → to + length t ≡ n
     → BeforeName d n f fs ((34 ∷ raw ++ 34 ∷ []) ++ t) v → BeforeColon d n (record f { name = Some (record { from = from; to = to; text = decoded raw }) } ∷ fs) t v
 name_into d n f fs raw from to t v h p q (name, s, r, u, bl, sl, bc, bf) =
-    let at : s ≡ (34 ∷ raw ++ 34 ∷ []) ++ t = firm_front 34 ((raw ++ 34 ∷ []) ++ t) s refl bl in
+    let at : s ≡ (34 ∷ raw ++ 34 ∷ []) ++ t = firm_prefix 34 ((raw ++ 34 ∷ []) ++ t) s refl bl in
     let e : (34 ∷ raw ++ 34 ∷ []) ++ t ≡ (34 ∷ sl.1.0 ++ 34 ∷ []) ++ r = sym at ∙ sl.2 ∙ ap (λ (x : List ℕ). x ++ r) sl.1.2 in
     let both : (raw ≡ sl.1.0) × (t ≡ r) = string_same raw sl.1.0 t r h sl.1.1 e in
     let len : name.from + length ((34 ∷ raw ++ 34 ∷ []) ++ t) ≡ n = subst (λ (x : List ℕ). name.from + length x ≡ n) at sl.3 in

@@ -16,7 +16,7 @@ pub mod Behind
 pub mod Calls
 pub mod Unique
 pub mod Decoding
-pub mod Fronts
+pub mod Prefixes
 pub mod Encoded
 pub mod TextCells
 pub mod Whole

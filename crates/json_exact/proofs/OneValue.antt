@@ -2,9 +2,9 @@
 use Rattle.std.proofs.Common.{◌≡◌, ℕ, ◌+◌, List, [], ◌∷◌, ◌++◌, length, drop, refl, sym, ◌∙◌, ap, subst, arith, Option, Some, None}
 use Rattle.json_exact.specs.Json.{Leaf, word, number, string, Bracket, square, curly, Name, Json, leaf, nest, Parts, no_parts, part}
 use Rattle.json_exact.specs.JsonText.{Blanks, SpelledWithin, SpellsLeaf, Spells, SpellsFirst, SpellsMore, SpellsPart, opening, closing}
-use Rattle.json_exact.specs.Reading.{no_number, Counts}
+use Rattle.json_exact.specs.JsonRests.{no_number, Counts}
 use Rattle.json_exact.proofs.Blanks.{Firm, leaf_starts, closing_firm, spells_firm, spells_leaf_firm, part_pass}
-use Rattle.json_exact.proofs.Steps.{heads, part_not_closing, clear_front, closing_clear, comma_closing, opening_same}
+use Rattle.json_exact.proofs.Steps.{heads, part_not_closing, clear_prefix, closing_clear, comma_closing, opening_same}
 use Rattle.json_exact.proofs.Leaves.{class, class_starts, class_at, leaf_same, limit_of, leaf_not_opening, name_is}
 use Rattle.json_exact.proofs.Tokens.{blanks_same}
 
@@ -35,8 +35,8 @@ leaf_one n l k a z b y s t u ct cu p q =
     (both.0, same_place n a b s p.3 q.3, same_place n z y u ends q.4, both.1)
 
 more_clear : (n d : ℕ) (b : Bracket) (ps : Parts) (to : ℕ) (s t : List ℕ) → SpellsMore n d b ps to s t → Counts no_number s
-more_clear n d b no_parts to s t sp = clear_front s (closing b ∷ t) (closing_clear b) sp.0
-more_clear n d b (part name v ps) to s t sp = clear_front s (44 ∷ sp.0) refl sp.2
+more_clear n d b no_parts to s t sp = clear_prefix s (closing b ∷ t) (closing_clear b) sp.0
+more_clear n d b (part name v ps) to s t sp = clear_prefix s (44 ∷ sp.0) refl sp.2
 
 -- a closing bracket and a part do not stand in one place
 no_part : (n d : ℕ) (b : Bracket) (name : Option Name) (v : Json) (s t r : List ℕ) → Blanks s (closing b ∷ t) → SpellsPart n b name (Spells n d v) s r → ⊥
@@ -69,7 +69,7 @@ part_one n d e curly (Some x) None v w s t u ct cu f p q = absurd q
 part_one n d e curly (Some x) (Some y) v w s t u ct cu f p q =
     let at : q.0 ≡ p.0 = blanks_both s q.0 p.0 (spells_leaf_firm n (string y.text) y.from y.to q.0 q.1 q.3) (spells_leaf_firm n (string x.text) x.from x.to p.0 p.1 p.3) q.2 p.2 in
     let named : SpellsLeaf n (string y.text) y.from y.to p.0 q.1 = subst (λ (i : List ℕ). SpellsLeaf n (string y.text) y.from y.to i q.1) at q.3 in
-    let l = leaf_one n (string x.text) (string y.text) x.from x.to y.from y.to p.0 p.1 q.1 (clear_front p.1 (58 ∷ p.4.0) refl p.4.1) (clear_front q.1 (58 ∷ q.4.0) refl q.4.1) p.3 named in
+    let l = leaf_one n (string x.text) (string y.text) x.from x.to y.from y.to p.0 p.1 q.1 (clear_prefix p.1 (58 ∷ p.4.0) refl p.4.1) (clear_prefix q.1 (58 ∷ q.4.0) refl q.4.1) p.3 named in
     let colon : 58 ∷ q.4.0 ≡ 58 ∷ p.4.0 = blanks_both p.1 (58 ∷ q.4.0) (58 ∷ p.4.0) refl refl (subst (λ (i : List ℕ). Blanks i (58 ∷ q.4.0)) (sym l.3) q.4.1) p.4.1 in
     let behind : q.4.0 ≡ p.4.0 = ap (drop 1) colon in
     let value : q.4.2.0 ≡ p.4.2.0 = blanks_both p.4.0 q.4.2.0 p.4.2.0 (spells_firm n e w q.4.2.0 u q.4.2.2) (spells_firm n d v p.4.2.0 t p.4.2.2) (subst (λ (i : List ℕ). Blanks i q.4.2.0) behind q.4.2.1) p.4.2.1 in
@@ -129,6 +129,6 @@ mutual
 pub one_value : (levels more : ℕ) (text : List ℕ) (v w : Json) → SpelledWithin levels text v → SpelledWithin more text w → v ≡ w
 one_value levels more text v w (s, t, bl, sp, b) (r, u, bl', sp', b') =
     let at : r ≡ s = blanks_both text r s (spells_firm (length text) more w r u sp') (spells_firm (length text) levels v s t sp) bl' bl in
-    let ct : Counts no_number t = clear_front t [] tt b in
-    let cu : Counts no_number u = clear_front u [] tt b' in
+    let ct : Counts no_number t = clear_prefix t [] tt b in
+    let cu : Counts no_number u = clear_prefix u [] tt b' in
     (value_one (length text) levels more v w s t u ct cu sp (subst (λ (i : List ℕ). Spells (length text) more w i u) at sp')).0

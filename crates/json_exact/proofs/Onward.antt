@@ -5,13 +5,13 @@ use Rattle.std.proofs.lemmas.List.{append-nil, get_or_at, set_at, length-set}
 use Rattle.json_exact.specs.Json.{null_word, true_word, false_word, Leaf, word, number, string, Bracket, square, curly, Name, Json, leaf, Parts, no_parts, part}
 use Rattle.json_exact.specs.Characters.{decoded}
 use Rattle.json_exact.specs.JsonText.{IsLeaf, closing}
-use Rattle.json_exact.specs.Reading.{Frame, Behind, Before, Opened, BeforeName, BeforeColon, closed, onto, Limit, any, no_closing}
+use Rattle.json_exact.specs.JsonRests.{Frame, Behind, Before, Opened, BeforeName, BeforeColon, closed, onto, Limit, any, no_closing}
 use Rattle.json_exact.proofs.Steps.{frame, leaf_back}
 use Rattle.std.proofs.Common.{Result, Ok, Err}
 use Rattle.std.specs.Prelude.{slice_range, slice_index, slice_set}
-use Rattle.json_exact.specs.Refusals.{depth_limit, IsBad}
+use Rattle.json_exact.specs.JsonRefusals.{depth_limit, IsBad}
 use Rattle.json_exact.specs.Scans.{CountsString, EndsString, PassesBlanks}
-use Rattle.json_exact.specs.Reading.{Agrees, IsHere, IsClear, Holds, ReadsValue, ReadsValueHere, ReadsName, ReadsNameHere, ReadsColon, ReadsFirst, ReadsBehind, Puts, Closes, EndsLeaf, kind_of, kind_of_bracket, limit_of_kind, cell, cells_of, cells_in, cells_done, name_cells, open_cells, top_of}
+use Rattle.json_exact.specs.JsonRests.{Agrees, IsHere, IsClear, Holds, ReadsValue, ReadsValueHere, ReadsName, ReadsNameHere, ReadsColon, ReadsFirst, ReadsBehind, Puts, Closes, EndsLeaf, kind_of, kind_of_bracket, limit_of_kind, cell, cells_of, cells_in, cells_done, name_cells, open_cells, top_of}
 use Rattle.json_exact.specs.declared.error.JsonError.{JsonError}
 use Rattle.json_exact.specs.declared.reader.Reader.{Reader}
 use Rattle.json_exact.specs.declared.cells.Cell.{Cell}
@@ -24,7 +24,7 @@ use Rattle.json_exact.proofs.Leaves.{limit_of, leaf_into, name_into, name_back}
 use Rattle.json_exact.proofs.Stuck as stuck
 use Rattle.json_exact.proofs.Endings.{EndsBehind, Ends, name_ends, colon_ends, opened_ends}
 use Rattle.json_exact.proofs.Agreeing.{advance, string_stops, string_letters, string_bytes}
-use Rattle.json_exact.proofs.Tokens.{other_halts, end_halts, bad_at, takes_value, takes_name, wide_name, wide_here, token_counts, front_counts}
+use Rattle.json_exact.proofs.Tokens.{other_halts, end_halts, bad_at, takes_value, takes_name, wide_name, wide_here, token_counts, prefix_counts}
 use Rattle.json_exact.proofs.Turns.{hold_blanks, advance_one, one_on, here, here_counts, closing_plain}
 
 -- ---- a leaf
@@ -46,7 +46,7 @@ leaf_advance text at e kind limit fs l a hr is lt le lets =
           (omega (arith, length-append (slice_range text at e) rest, length_range text at e le)) refl x;
       back = λ m rest v c x. leaf_back (depth_limit + m) (e + length rest) fs l (slice_range text at e) at e rest v is
           (omega (arith, length-append (slice_range text at e) rest, length_range text at e le)) refl x;
-      counts = λ rest c. front_counts limit text at e rest lt le hr;
+      counts = λ rest c. prefix_counts limit text at e rest lt le hr;
       letters = λ s h k b can. elim lets [
         | inl plain ↦ absurd (plain s h k b)
         | inr q ↦ string_letters text at e limit (λ d n. Before d n fs) a (takes_value fs) (here_counts text at 34 limit hr q.0) q.0 q.1 s h k b
@@ -256,7 +256,7 @@ name_turn text r new e (Ok x) (from, done, fs, limit, h, hr) q s' p u o =
           (subst (λ (z : List ℕ). BeforeName (depth_limit + m) (e + length rest) f fs (z ++ rest) v) bytes y);
       back = λ m rest v c y. subst (λ (z : List ℕ). BeforeName (depth_limit + m) (e + length rest) f fs (z ++ rest) v) (sym bytes)
           (name_back (depth_limit + m) (e + length rest) f fs raw at e rest v s.characters (size rest) refl y);
-      counts = λ rest c. front_counts limit text at e rest (omega arith) le hr;
+      counts = λ rest c. prefix_counts limit text at e rest (omega arith) le hr;
       letters = λ i b c d can. string_letters text at e limit (λ d n. BeforeName d n f fs) h.agrees (takes_name f fs) (here_counts text at 34 limit hr q) q s i b c d;
     }) in
     let ph : Cell = cell Object from (top_of fs) 0 in

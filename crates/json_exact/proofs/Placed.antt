@@ -2,7 +2,7 @@
 use Rattle.std.proofs.Common.{◌≡◌, ℕ, suc, ◌+◌, ◌<◌, ◌≤◌, List, ◌∷◌, length, refl, sym, ◌∙◌, ap, arith, length-append, Option, Some, None}
 use Rattle.json_exact.specs.Json.{Leaf, word, number, string, Bracket, square, curly, Name, Json, leaf, nest, Parts, no_parts, part, ends_at}
 use Rattle.json_exact.specs.JsonText.{Blanks, SpelledWithin, SpellsLeaf, Spells, SpellsFirst, SpellsMore, SpellsPart, opening, closing}
-use Rattle.json_exact.specs.Spans.{IsSlice, IsPlaced, ArePlaced, IsNamePlaced, behind_name}
+use Rattle.json_exact.specs.ValueSpans.{IsSlice, IsPlaced, ArePlaced, IsNamePlaced, behind_name}
 use Rattle.json_exact.proofs.Blanks.{leaf_starts}
 use Rattle.json_exact.proofs.Decoding.{Suffix, after_blanks, after_byte, after_part, after_value, after_leaf, leaf_slice, whole_suffix}
 

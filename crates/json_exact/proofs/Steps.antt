@@ -4,8 +4,8 @@ use Rattle.std.proofs.lemmas.Bool.{both_ways, eqb-false}
 use Rattle.json_exact.specs.Json.{null_word, true_word, false_word, Leaf, word, number, string, Bracket, square, curly, Name, Json, leaf, nest, no_parts, part}
 use Rattle.json_exact.specs.Scans.{is_in_number}
 use Rattle.json_exact.specs.JsonText.{is_blank, AreBlanks, Blanks, IsLeaf, SpellsLeaf, opening, closing, SpellsPart, Spells, SpellsFirst}
-use Rattle.json_exact.specs.Reading.{Frame, Behind, Before, Opened, BeforeName, BeforeColon, levels_left, closed, no_number, no_closing, Counts}
-use Rattle.json_exact.proofs.Blanks.{no_blanks, firm_front, Starts, leaf_starts, closing_firm, in_number_firm}
+use Rattle.json_exact.specs.JsonRests.{Frame, Behind, Before, Opened, BeforeName, BeforeColon, levels_left, closed, no_number, no_closing, Counts}
+use Rattle.json_exact.proofs.Blanks.{no_blanks, firm_prefix, Starts, leaf_starts, closing_firm, in_number_firm}
 
 abbrev pub frame : Bracket → ℕ → List (Option Name × Json) → Option Name → Frame
 frame k from done name = record { kind = k; from = from; done = done; name = name }
@@ -42,13 +42,13 @@ opening_blank curly = refl
 pub open_into : (d n : ℕ) (fs : List Frame) (b : Bracket) (from : ℕ) (t : List ℕ) (v : Json) → from + length (opening b ∷ t) ≡ n
     → Before d n fs (opening b ∷ t) v → Opened d n (frame b from [] None) fs t v
 open_into d n fs b from t v p (leaf l a z, s, m, bl, sp, bh) =
-    let at : s ≡ opening b ∷ t = firm_front (opening b) t s (opening_blank b) bl in
+    let at : s ≡ opening b ∷ t = firm_prefix (opening b) t s (opening_blank b) bl in
     let st = leaf_starts l sp.0 sp.1 in
     let e : opening b ∷ t ≡ (st.0 ∷ st.1) ++ m = sym at ∙ sp.2 ∙ ap (λ (q : List ℕ). q ++ m) st.2 in
     let first : st.0 ≡ opening b = cc in
     absurd (opening_starts b l (subst (Starts l) first st.3))
 open_into d n fs b from t v p (nest k a z ps, s, m, bl, sp, bh) =
-    let at : s ≡ opening b ∷ t = firm_front (opening b) t s (opening_blank b) bl in
+    let at : s ≡ opening b ∷ t = firm_prefix (opening b) t s (opening_blank b) bl in
     let e : opening b ∷ t ≡ opening k ∷ sp.3.0 = sym at ∙ sp.3.1 in
     let first : opening k ≡ opening b = cc in
     let rest : sp.3.0 ≡ t = cc in
@@ -71,7 +71,7 @@ open_back d n fs b from t v p lt (ps, to, m, first, bh) =
 -- a bracket that opens a level too many
 pub open_too_deep : (d n : ℕ) (fs : List Frame) (b : Bracket) (t : List ℕ) (v : Json) → d ≤ length fs → Before d n fs (opening b ∷ t) v → ⊥
 open_too_deep d n fs b t v le (leaf l a z, s, m, bl, sp, bh) =
-    let at : s ≡ opening b ∷ t = firm_front (opening b) t s (opening_blank b) bl in
+    let at : s ≡ opening b ∷ t = firm_prefix (opening b) t s (opening_blank b) bl in
     let st = leaf_starts l sp.0 sp.1 in
     let e : opening b ∷ t ≡ (st.0 ∷ st.1) ++ m = sym at ∙ sp.2 ∙ ap (λ (q : List ℕ). q ++ m) st.2 in
     let first : st.0 ≡ opening b = cc in
@@ -120,15 +120,15 @@ value_not_closing n d (nest k from to ps) b t rest s at sp =
     opening_closing b k first
 
 pub part_not_closing : (n d : ℕ) (b : Bracket) (name : Option Name) (v : Json) (t rest : List ℕ) → SpellsPart n b name (Spells n d v) (closing b ∷ t) rest → ⊥
-part_not_closing n d square None v t rest p = value_not_closing n d v square t rest p.0 (firm_front 93 t p.0 refl p.1) p.2
+part_not_closing n d square None v t rest p = value_not_closing n d v square t rest p.0 (firm_prefix 93 t p.0 refl p.1) p.2
 part_not_closing n d square (Some name) v t rest p = p
 part_not_closing n d curly None v t rest p = p
-part_not_closing n d curly (Some name) v t rest p = leaf_not_closing n (string name.text) name.from name.to curly t p.1 p.0 (firm_front 125 t p.0 refl p.2) p.3
+part_not_closing n d curly (Some name) v t rest p = leaf_not_closing n (string name.text) name.from name.to curly t p.1 p.0 (firm_prefix 125 t p.0 refl p.2) p.3
 
 pub first_close_into : (d n : ℕ) (f : Frame) (fs : List Frame) (to : ℕ) (t : List ℕ) (v : Json) → to + length t ≡ n
     → Opened d n f fs (closing f.kind ∷ t) v → Behind d n fs (closed f to no_parts) t v
 first_close_into d n f fs to t v p (no_parts, z, m, first, bh) =
-    let at : closing f.kind ∷ m ≡ closing f.kind ∷ t = firm_front (closing f.kind) t (closing f.kind ∷ m) (closing_firm f.kind) first.0 in
+    let at : closing f.kind ∷ m ≡ closing f.kind ∷ t = firm_prefix (closing f.kind) t (closing f.kind ∷ m) (closing_firm f.kind) first.0 in
     let rest : m ≡ t = cc in
     let len : z + length t ≡ n = subst (λ (q : List ℕ). z + length q ≡ n) rest first.1 in
     let place : z ≡ to = omega arith in
@@ -143,14 +143,14 @@ first_close_back d n f fs to t v p bh = (no_parts, to, t, (no_blanks (closing f.
 pub close_into : (d n : ℕ) (f : Frame) (fs : List Frame) (w : Json) (to : ℕ) (t : List ℕ) (v : Json) → to + length t ≡ n
     → Behind d n (f ∷ fs) w (closing f.kind ∷ t) v → Behind d n fs (closed f to (part f.name w no_parts)) t v
 close_into d n f fs w to t v p (no_parts, z, m, first, bh) =
-    let at : closing f.kind ∷ m ≡ closing f.kind ∷ t = firm_front (closing f.kind) t (closing f.kind ∷ m) (closing_firm f.kind) first.0 in
+    let at : closing f.kind ∷ m ≡ closing f.kind ∷ t = firm_prefix (closing f.kind) t (closing f.kind ∷ m) (closing_firm f.kind) first.0 in
     let rest : m ≡ t = cc in
     let len : z + length t ≡ n = subst (λ (q : List ℕ). z + length q ≡ n) rest first.1 in
     let place : z ≡ to = omega arith in
     let one : Behind d n fs (closed f z (part f.name w no_parts)) t v = subst (λ (q : List ℕ). Behind d n fs (closed f z (part f.name w no_parts)) q v) rest bh in
     subst (λ (q : ℕ). Behind d n fs (closed f q (part f.name w no_parts)) t v) place one
 close_into d n f fs w to t v p (part name x ps, z, m, first, bh) =
-    let at : 44 ∷ first.0 ≡ closing f.kind ∷ t = firm_front (closing f.kind) t (44 ∷ first.0) (closing_firm f.kind) first.2 in
+    let at : 44 ∷ first.0 ≡ closing f.kind ∷ t = firm_prefix (closing f.kind) t (44 ∷ first.0) (closing_firm f.kind) first.2 in
     let e : 44 ≡ closing f.kind = cc in
     absurd (comma_closing f.kind e)
 
@@ -189,9 +189,9 @@ first_name_back d n from done fs t v (name, s, r, u, bl, sl, bc, (w, x, m, bx, s
 pub comma_item_into : (d n from : ℕ) (done : List (Option Name × Json)) (name : Option Name) (fs : List Frame) (w : Json) (t : List ℕ) (v : Json)
     → Behind d n (frame square from done name ∷ fs) w (44 ∷ t) v → Before d n (frame square from ((name, w) ∷ done) None ∷ fs) t v
 comma_item_into d n from done name fs w t v (no_parts, to, m, more, bh) =
-    absurd (eqb-false 93 44 refl (heads 93 44 m t (firm_front 44 t (93 ∷ m) refl more.0)))
+    absurd (eqb-false 93 44 refl (heads 93 44 m t (firm_prefix 44 t (93 ∷ m) refl more.0)))
 comma_item_into d n from done name fs w t v (part None x ps, to, m, more, bh) =
-    let at : 44 ∷ more.0 ≡ 44 ∷ t = firm_front 44 t (44 ∷ more.0) refl more.2 in
+    let at : 44 ∷ more.0 ≡ 44 ∷ t = firm_prefix 44 t (44 ∷ more.0) refl more.2 in
     let rest : more.0 ≡ t = cc in
     (x, more.3.0, more.1, subst (λ (q : List ℕ). Blanks q more.3.0) rest more.3.1, more.3.2, (ps, to, m, more.4, bh))
 comma_item_into d n from done name fs w t v (part (Some other) x ps, to, m, more, bh) = absurd more.3
@@ -204,10 +204,10 @@ comma_item_back d n from done name fs w t v (x, s, m, bl, sp, (ps, to, z, more, 
 pub comma_name_into : (d n from : ℕ) (done : List (Option Name × Json)) (name : Option Name) (fs : List Frame) (w : Json) (t : List ℕ) (v : Json)
     → Behind d n (frame curly from done name ∷ fs) w (44 ∷ t) v → BeforeName d n (frame curly from ((name, w) ∷ done) None) fs t v
 comma_name_into d n from done name fs w t v (no_parts, to, m, more, bh) =
-    absurd (eqb-false 125 44 refl (heads 125 44 m t (firm_front 44 t (125 ∷ m) refl more.0)))
+    absurd (eqb-false 125 44 refl (heads 125 44 m t (firm_prefix 44 t (125 ∷ m) refl more.0)))
 comma_name_into d n from done name fs w t v (part None x ps, to, m, more, bh) = absurd more.3
 comma_name_into d n from done name fs w t v (part (Some other) x ps, to, m, more, bh) =
-    let at : 44 ∷ more.0 ≡ 44 ∷ t = firm_front 44 t (44 ∷ more.0) refl more.2 in
+    let at : 44 ∷ more.0 ≡ 44 ∷ t = firm_prefix 44 t (44 ∷ more.0) refl more.2 in
     let rest : more.0 ≡ t = cc in
     let p = more.3 in
     (other, p.0, p.1, p.4.0, subst (λ (q : List ℕ). Blanks q p.0) rest p.2, p.3, p.4.1, (x, p.4.2.0, more.1, p.4.2.1, p.4.2.2, (ps, to, m, more.4, bh)))
@@ -221,7 +221,7 @@ comma_name_back d n from done name fs w t v (other, s, r, u, bl, sl, bc, (x, y, 
 
 pub colon_into : (d n : ℕ) (fs : List Frame) (t : List ℕ) (v : Json) → BeforeColon d n fs (58 ∷ t) v → Before d n fs t v
 colon_into d n fs t v (u, bl, bf) =
-    let at : 58 ∷ u ≡ 58 ∷ t = firm_front 58 t (58 ∷ u) refl bl in
+    let at : 58 ∷ u ≡ 58 ∷ t = firm_prefix 58 t (58 ∷ u) refl bl in
     let rest : u ≡ t = cc in
     subst (λ (q : List ℕ). Before d n fs q v) rest bf
 
@@ -238,7 +238,7 @@ pub record LeafFound (d n : ℕ) (fs : List Frame) (c : ℕ) (q : List ℕ) (v :
   pub to : ℕ
   pub rest : List ℕ
   pub is_leaf : IsLeaf leaf' bytes
-  pub front : c ∷ q ≡ bytes ++ rest
+  pub prefix : c ∷ q ≡ bytes ++ rest
   pub begins : from + length (c ∷ q) ≡ n
   pub ends : to + length rest ≡ n
   pub starts : Starts leaf' c
@@ -247,7 +247,7 @@ pub record LeafFound (d n : ℕ) (fs : List Frame) (c : ℕ) (q : List ℕ) (v :
 pub leaf_found : (d n : ℕ) (fs : List Frame) (c : ℕ) (q : List ℕ) (v : Json) → is_blank c ≡ false → ((b : Bracket) → c ≢ opening b)
     → Before d n fs (c ∷ q) v → LeafFound d n fs c q v
 leaf_found d n fs c q v firm ne (leaf l a z, s, m, bl, sp, bh) =
-    let at : s ≡ c ∷ q = firm_front c q s firm bl in
+    let at : s ≡ c ∷ q = firm_prefix c q s firm bl in
     let st = leaf_starts l sp.0 sp.1 in
     let e : c ∷ q ≡ (st.0 ∷ st.1) ++ m = sym at ∙ sp.2 ∙ ap (λ (r : List ℕ). r ++ m) st.2 in
     let first : st.0 ≡ c = cc in
@@ -258,14 +258,14 @@ leaf_found d n fs c q v firm ne (leaf l a z, s, m, bl, sp, bh) =
       to = z;
       rest = m;
       is_leaf = sp.1;
-      front = sym at ∙ sp.2;
+      prefix = sym at ∙ sp.2;
       begins = subst (λ (r : List ℕ). a + length r ≡ n) at sp.3;
       ends = sp.4;
       starts = subst (Starts l) first st.3;
       behind = bh;
     }
 leaf_found d n fs c q v firm ne (nest k a z ps, s, m, bl, sp, bh) =
-    let at : s ≡ c ∷ q = firm_front c q s firm bl in
+    let at : s ≡ c ∷ q = firm_prefix c q s firm bl in
     let e : c ∷ q ≡ opening k ∷ sp.3.0 = sym at ∙ sp.3.1 in
     let first : c ≡ opening k = cc in
     absurd (ne k first)
@@ -278,16 +278,16 @@ pub closing_clear : (b : Bracket) → is_in_number (closing b) ≡ false
 closing_clear square = refl
 closing_clear curly = refl
 
-clear_front_by : (bs text s : List ℕ) → AreBlanks bs → text ≡ bs ++ s → Counts no_number s → Counts no_number text
-clear_front_by [] text s h e c = subst (Counts no_number) (sym e) c
-clear_front_by (b ∷ bs) text s h e c = subst (Counts no_number) (sym e) (in_number_firm b h.0)
+clear_prefix_by : (bs text s : List ℕ) → AreBlanks bs → text ≡ bs ++ s → Counts no_number s → Counts no_number text
+clear_prefix_by [] text s h e c = subst (Counts no_number) (sym e) c
+clear_prefix_by (b ∷ bs) text s h e c = subst (Counts no_number) (sym e) (in_number_firm b h.0)
 
-pub clear_front : (text s : List ℕ) → Counts no_number s → Blanks text s → Counts no_number text
-clear_front text s c h = clear_front_by h.0 text s h.1 h.2 c
+pub clear_prefix : (text s : List ℕ) → Counts no_number s → Blanks text s → Counts no_number text
+clear_prefix text s c h = clear_prefix_by h.0 text s h.1 h.2 c
 
 -- behind a value no byte of a number stands
 pub behind_clear : (d n : ℕ) (fs : List Frame) (w : Json) (rest : List ℕ) (v : Json) → Behind d n fs w rest v → Counts no_number rest
 behind_clear d n fs w [] v h = tt
-behind_clear d n [] w (b ∷ rest) v h = clear_front (b ∷ rest) [] tt h.0
-behind_clear d n (f ∷ fs) w (b ∷ rest) v (no_parts, to, m, more, bh) = clear_front (b ∷ rest) (closing f.kind ∷ m) (closing_clear f.kind) more.0
-behind_clear d n (f ∷ fs) w (b ∷ rest) v (part name x ps, to, m, more, bh) = clear_front (b ∷ rest) (44 ∷ more.0) refl more.2
+behind_clear d n [] w (b ∷ rest) v h = clear_prefix (b ∷ rest) [] tt h.0
+behind_clear d n (f ∷ fs) w (b ∷ rest) v (no_parts, to, m, more, bh) = clear_prefix (b ∷ rest) (closing f.kind ∷ m) (closing_clear f.kind) more.0
+behind_clear d n (f ∷ fs) w (b ∷ rest) v (part name x ps, to, m, more, bh) = clear_prefix (b ∷ rest) (44 ∷ more.0) refl more.2

@@ -4,14 +4,14 @@ use Rattle.std.proofs.lemmas.Bool.{both_ways, eqb-false}
 use Rattle.std.proofs.lemmas.List.{append-nil, get_or_at, get_or_append_left, length-take-le}
 use Rattle.json_exact.specs.Json.{Word, null_word, true_word, false_word, Leaf, word, number, string, Bracket, square, curly, Name, Json, leaf, nest, no_parts, part}
 use Rattle.json_exact.specs.Characters.{refused, whole, step, steps, AreCharacters}
-use Rattle.json_exact.specs.Numbers.{is_digit, IsNumber}
+use Rattle.json_exact.specs.JsonNumbers.{is_digit, IsNumber}
 use Rattle.json_exact.specs.Scans.{is_in_number, then, written, may_end}
 use Rattle.json_exact.specs.JsonText.{is_blank, letters, IsLeaf, opening, closing, SpellsPart, Spells}
-use Rattle.json_exact.specs.Reading.{Frame, Behind, Before, Opened, BeforeName, BeforeColon, no_number, Counts}
+use Rattle.json_exact.specs.JsonRests.{Frame, Behind, Before, Opened, BeforeName, BeforeColon, no_number, Counts}
 use Rattle.json_exact.specs.declared.scan.Last.TheVariants.{Nothing, Misplaced}
 use Rattle.json_exact.proofs.Walks.{string_stuck, string_open}
 use Rattle.json_exact.proofs.Digits.{number_ends, in_number, number_stuck}
-use Rattle.json_exact.proofs.Blanks.{firm_front, nothing_front, Starts, leaf_starts, start_firm}
+use Rattle.json_exact.proofs.Blanks.{firm_prefix, nothing_prefix, Starts, leaf_starts, start_firm}
 use Rattle.json_exact.proofs.Steps.{LeafFound, leaf_found, behind_clear, heads}
 use Rattle.json_exact.proofs.Leaves.{class, class_at, class_starts, leaf_not_opening}
 
@@ -19,11 +19,11 @@ use Rattle.json_exact.proofs.Leaves.{class, class_at, class_starts, leaf_not_ope
 
 pub before_end : (d n : ℕ) (fs : List Frame) (v : Json) → Before d n fs [] v → ⊥
 before_end d n fs v (leaf l a z, s, m, bl, sp, bh) =
-    let none : s ≡ [] = nothing_front s bl in
+    let none : s ≡ [] = nothing_prefix s bl in
     let st = leaf_starts l sp.0 sp.1 in
     let e : [] ≡ (st.0 ∷ st.1) ++ m = sym none ∙ sp.2 ∙ ap (λ (q : List ℕ). q ++ m) st.2 in cc
 before_end d n fs v (nest k a z ps, s, m, bl, sp, bh) =
-    let none : s ≡ [] = nothing_front s bl in
+    let none : s ≡ [] = nothing_prefix s bl in
     let e : [] ≡ opening k ∷ sp.3.0 = sym none ∙ sp.3.1 in cc
 
 pub before_dead : (d n : ℕ) (fs : List Frame) (c : ℕ) (q : List ℕ) (v : Json) → is_blank c ≡ false → ((b : Bracket) → c ≢ opening b)
@@ -74,7 +74,7 @@ word_found d n fs w q v bf =
     let f : LeafFound d n fs c q v = leaf_found d n fs c q v (start_firm (word w) c (word_first w)) (leaf_not_opening (word w) c (word_first w)) bf in
     let is : f.leaf' ≡ word w = word_only w f.leaf' (first_letter w f.leaf' f.starts) in
     let bytes : f.bytes ≡ letters w = subst (λ (l : Leaf). IsLeaf l f.bytes) is f.is_leaf in
-    (f.rest, f.front ∙ ap (λ (x : List ℕ). x ++ f.rest) bytes)
+    (f.rest, f.prefix ∙ ap (λ (x : List ℕ). x ++ f.rest) bytes)
 
 word_cons : (w : Word) (i : ℕ) → take (suc i) (letters w) ≡ get_or (letters w) 0 0 ∷ take i (drop 1 (letters w))
 word_cons null_word i = refl
@@ -113,7 +113,7 @@ number_found : (d n : ℕ) (fs : List Frame) (c : ℕ) (q : List ℕ) (v : Json)
 number_found d n fs c q v st bf =
     let f : LeafFound d n fs c q v = leaf_found d n fs c q v (start_firm (number []) c st) (leaf_not_opening (number []) c st) bf in
     let cl : class f.leaf' ≡ 3 = sym (class_starts f.leaf' c f.starts) ∙ class_starts (number []) c st in
-    (f.bytes, f.rest, number_only f.leaf' f.bytes cl f.is_leaf, f.front, behind_clear d n fs _ f.rest v f.behind)
+    (f.bytes, f.rest, number_only f.leaf' f.bytes cl f.is_leaf, f.prefix, behind_clear d n fs _ f.rest v f.behind)
 
 number_rest : (p m q : List ℕ) (b : ℕ) (rest r : List ℕ) → written Nothing p ≢ Misplaced → (may_end (written Nothing p) ≡ true → is_in_number b ≡ true)
     → IsNumber m → Counts no_number r → p ≡ m ++ q → r ≡ q ++ b ∷ rest → ⊥
@@ -165,11 +165,11 @@ string_found d n fs q v bf =
     let f : LeafFound d n fs 34 q v = leaf_found d n fs 34 q v refl (leaf_not_opening (string []) 34 refl) bf in
     let cl : class f.leaf' ≡ 4 = sym (class_starts f.leaf' 34 f.starts) in
     let s = string_only f.leaf' f.bytes cl f.is_leaf in
-    (s.0, f.rest, s.1, quoted s.0 f.rest q f.bytes s.2 f.front)
+    (s.0, f.rest, s.1, quoted s.0 f.rest q f.bytes s.2 f.prefix)
 
 name_found : (d n : ℕ) (g : Frame) (fs : List Frame) (q : List ℕ) (v : Json) → BeforeName d n g fs (34 ∷ q) v → (raw r : List ℕ) × AreCharacters raw × (q ≡ raw ++ 34 ∷ r)
 name_found d n g fs q v (name, s, r, u, bl, sl, bc, bf) =
-    let at : s ≡ 34 ∷ q = firm_front 34 q s refl bl in
+    let at : s ≡ 34 ∷ q = firm_prefix 34 q s refl bl in
     (sl.1.0, r, sl.1.1, quoted sl.1.0 r q sl.0 sl.1.2 (sym at ∙ sl.2))
 
 -- the characters p stop with a byte b: up to b they may go on, and do not end the string
@@ -200,22 +200,22 @@ name_end d n g fs p v alive bf =
 
 pub name_none : (d n : ℕ) (g : Frame) (fs : List Frame) (v : Json) → BeforeName d n g fs [] v → ⊥
 name_none d n g fs v (name, s, r, u, bl, sl, bc, bf) =
-    let none : s ≡ [] = nothing_front s bl in
+    let none : s ≡ [] = nothing_prefix s bl in
     let e : [] ≡ (34 ∷ sl.1.0 ++ 34 ∷ []) ++ r = sym none ∙ sl.2 ∙ ap (λ (x : List ℕ). x ++ r) sl.1.2 in cc
 
 pub name_other : (d n : ℕ) (g : Frame) (fs : List Frame) (c : ℕ) (q : List ℕ) (v : Json) → is_blank c ≡ false → c ≢ 34 → BeforeName d n g fs (c ∷ q) v → ⊥
 name_other d n g fs c q v firm ne (name, s, r, u, bl, sl, bc, bf) =
-    let at : s ≡ c ∷ q = firm_front c q s firm bl in
+    let at : s ≡ c ∷ q = firm_prefix c q s firm bl in
     let e : c ∷ q ≡ (34 ∷ sl.1.0 ++ 34 ∷ []) ++ r = sym at ∙ sl.2 ∙ ap (λ (x : List ℕ). x ++ r) sl.1.2 in
     ne (heads c 34 q ((sl.1.0 ++ 34 ∷ []) ++ r) e)
 
 -- ---- a colon, and behind a value
 
 pub colon_none : (d n : ℕ) (fs : List Frame) (v : Json) → BeforeColon d n fs [] v → ⊥
-colon_none d n fs v (u, bl, bf) = (let none : 58 ∷ u ≡ [] = nothing_front (58 ∷ u) bl in cc)
+colon_none d n fs v (u, bl, bf) = (let none : 58 ∷ u ≡ [] = nothing_prefix (58 ∷ u) bl in cc)
 
 pub colon_other : (d n : ℕ) (fs : List Frame) (c : ℕ) (q : List ℕ) (v : Json) → is_blank c ≡ false → c ≢ 58 → BeforeColon d n fs (c ∷ q) v → ⊥
-colon_other d n fs c q v firm ne (u, bl, bf) = ne (sym (heads 58 c u q (firm_front c q (58 ∷ u) firm bl)))
+colon_other d n fs c q v firm ne (u, bl, bf) = ne (sym (heads 58 c u q (firm_prefix c q (58 ∷ u) firm bl)))
 
 value_none : (n d : ℕ) (w : Json) (s m : List ℕ) → s ≡ [] → Spells n d w s m → ⊥
 value_none n d (leaf l a z) s m none sp =
@@ -224,23 +224,23 @@ value_none n d (leaf l a z) s m none sp =
 value_none n d (nest k a z ps) s m none sp = (let e : [] ≡ opening k ∷ sp.3.0 = sym none ∙ sp.3.1 in cc)
 
 part_none : (n d : ℕ) (b : Bracket) (name : Option Name) (w : Json) (m : List ℕ) → SpellsPart n b name (Spells n d w) [] m → ⊥
-part_none n d square None w m p = value_none n d w p.0 m (nothing_front p.0 p.1) p.2
+part_none n d square None w m p = value_none n d w p.0 m (nothing_prefix p.0 p.1) p.2
 part_none n d square (Some name) w m p = p
 part_none n d curly None w m p = p
-part_none n d curly (Some name) w m p = value_none n d (leaf (string name.text) name.from name.to) p.0 p.1 (nothing_front p.0 p.2) p.3
+part_none n d curly (Some name) w m p = value_none n d (leaf (string name.text) name.from name.to) p.0 p.1 (nothing_prefix p.0 p.2) p.3
 
 pub opened_none : (d n : ℕ) (f : Frame) (fs : List Frame) (v : Json) → Opened d n f fs [] v → ⊥
-opened_none d n f fs v (no_parts, to, m, first, bh) = (let none : closing f.kind ∷ m ≡ [] = nothing_front (closing f.kind ∷ m) first.0 in cc)
+opened_none d n f fs v (no_parts, to, m, first, bh) = (let none : closing f.kind ∷ m ≡ [] = nothing_prefix (closing f.kind ∷ m) first.0 in cc)
 opened_none d n f fs v (part name w ps, to, m, first, bh) = part_none n _ f.kind name w first.0 first.1
 
 pub behind_none : (d n : ℕ) (f : Frame) (fs : List Frame) (w : Json) (v : Json) → Behind d n (f ∷ fs) w [] v → ⊥
-behind_none d n f fs w v (no_parts, to, m, more, bh) = (let none : closing f.kind ∷ m ≡ [] = nothing_front (closing f.kind ∷ m) more.0 in cc)
-behind_none d n f fs w v (part name x ps, to, m, more, bh) = (let none : 44 ∷ more.0 ≡ [] = nothing_front (44 ∷ more.0) more.2 in cc)
+behind_none d n f fs w v (no_parts, to, m, more, bh) = (let none : closing f.kind ∷ m ≡ [] = nothing_prefix (closing f.kind ∷ m) more.0 in cc)
+behind_none d n f fs w v (part name x ps, to, m, more, bh) = (let none : 44 ∷ more.0 ≡ [] = nothing_prefix (44 ∷ more.0) more.2 in cc)
 
 pub behind_other : (d n : ℕ) (f : Frame) (fs : List Frame) (w : Json) (c : ℕ) (q : List ℕ) (v : Json) → is_blank c ≡ false → c ≢ 44 → c ≢ closing f.kind
     → Behind d n (f ∷ fs) w (c ∷ q) v → ⊥
-behind_other d n f fs w c q v firm ne ne' (no_parts, to, m, more, bh) = ne' (sym (heads (closing f.kind) c m q (firm_front c q (closing f.kind ∷ m) firm more.0)))
-behind_other d n f fs w c q v firm ne ne' (part name x ps, to, m, more, bh) = ne (sym (heads 44 c more.0 q (firm_front c q (44 ∷ more.0) firm more.2)))
+behind_other d n f fs w c q v firm ne ne' (no_parts, to, m, more, bh) = ne' (sym (heads (closing f.kind) c m q (firm_prefix c q (closing f.kind ∷ m) firm more.0)))
+behind_other d n f fs w c q v firm ne ne' (part name x ps, to, m, more, bh) = ne (sym (heads 44 c more.0 q (firm_prefix c q (44 ∷ more.0) firm more.2)))
 
 pub behind_all : (d n : ℕ) (w : Json) (c : ℕ) (q : List ℕ) (v : Json) → is_blank c ≡ false → Behind d n [] w (c ∷ q) v → ⊥
-behind_all d n w c q v firm h = (let e : [] ≡ c ∷ q = firm_front c q [] firm h.0 in cc)
+behind_all d n w c q v firm h = (let e : [] ≡ c ∷ q = firm_prefix c q [] firm h.0 in cc)

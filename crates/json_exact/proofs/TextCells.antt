@@ -3,8 +3,8 @@ use Rattle.std.proofs.Common.{ℕ, zero, suc, List, [], ◌∷◌, ◌++◌, len
 use Rattle.json_exact.specs.Json.{null_word, true_word, false_word, Leaf, word, number, string, Bracket, square, curly, Name, Json, leaf, nest, Parts, no_parts, part}
 use Rattle.json_exact.specs.Characters.{decoded}
 use Rattle.json_exact.specs.JsonText.{SpelledWithin, SpellsLeaf, Spells, SpellsFirst, SpellsMore, SpellsPart, opening}
-use Rattle.json_exact.specs.Reading.{kind_of, kind_of_bracket, cell, cells_of, cells_in}
-use Rattle.json_exact.specs.Texts.{IsText, AreTexts}
+use Rattle.json_exact.specs.JsonRests.{kind_of, kind_of_bracket, cell, cells_of, cells_in}
+use Rattle.json_exact.specs.CellTexts.{IsText, AreTexts}
 use Rattle.json_exact.specs.declared.cells.Cell.{Cell}
 use Rattle.json_exact.proofs.Encoded.{IsUtf8-decoded}
 use Rattle.json_exact.proofs.Decoding.{Suffix, after_blanks, after_byte, after_leaf, after_part, after_value, string_slice, whole_suffix}

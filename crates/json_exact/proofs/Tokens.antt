@@ -2,33 +2,33 @@
 use Rattle.std.proofs.Common.{◌≡◌, ◌≢◌, ℕ, zero, suc, ◌+◌, ◌-◌, ◌<◌, ◌≤◌, List, [], ◌∷◌, ◌++◌, length, get_or, take, Bool, true, false, cond, refl, sym, ◌∙◌, ap, subst, arith, ◌⊎◌, inl, inr, eqb, append_assoc}
 use Rattle.std.proofs.lemmas.Bool.{both_ways, eqb-false, eqb-true}
 use Rattle.json_exact.specs.Json.{Word, null_word, true_word, false_word, string, Bracket, square, curly, Json}
-use Rattle.json_exact.specs.Numbers.{is_digit}
+use Rattle.json_exact.specs.JsonNumbers.{is_digit}
 use Rattle.json_exact.specs.Scans.{is_in_number, then, written, may_end}
 use Rattle.json_exact.specs.JsonText.{is_blank, AreBlanks, Blanks, letters, opening, closing}
-use Rattle.json_exact.specs.Reading.{Frame, Before, BeforeName, Limit, any, no_number, no_closing, Counts}
+use Rattle.json_exact.specs.JsonRests.{Frame, Before, BeforeName, Limit, any, no_number, no_closing, Counts}
 use Rattle.json_exact.specs.declared.scan.Last.{Last}
 use Rattle.json_exact.specs.declared.scan.Last.TheVariants.{Nothing, Minus, Zero, Whole, Misplaced}
 use Rattle.json_exact.proofs.Digits.{in_number}
-use Rattle.json_exact.proofs.Blanks.{Firm, firm_front, closing_firm}
+use Rattle.json_exact.proofs.Blanks.{Firm, firm_prefix, closing_firm}
 use Rattle.json_exact.proofs.Steps.{heads}
 use Rattle.std.proofs.lemmas.Bool.{cases_lt}
 use Rattle.std.specs.Prelude.{slice_range, slice_index}
-use Rattle.json_exact.specs.Refusals.{depth_limit, IsBad}
+use Rattle.json_exact.specs.JsonRefusals.{depth_limit, IsBad}
 use Rattle.json_exact.specs.Scans.{StopsWord, StopsNumber}
-use Rattle.json_exact.specs.Reading.{Agrees, IsOpenFor, IsHere, StopsLeaf, no_leaf, in_word, in_number as stops_number, in_string}
+use Rattle.json_exact.specs.JsonRests.{Agrees, IsOpenFor, IsHere, StopsLeaf, no_leaf, in_word, in_number as stops_number, in_string}
 use Rattle.json_exact.proofs.Ranges.{range_first, range_none, range_more, range_one, range_byte, length_range}
 use Rattle.json_exact.proofs.Blanks.{blanks_pass, spells_firm, spells_leaf_firm}
 use Rattle.json_exact.proofs.Steps.{value_not_closing, leaf_not_closing}
 use Rattle.json_exact.proofs.Scanning.{on, off}
 use Rattle.json_exact.proofs.Stuck as stuck
-use Rattle.json_exact.proofs.Endings.{EndsBehind, before_ends, word_ends, number_ends_so, string_ends, name_ends, same_front}
+use Rattle.json_exact.proofs.Endings.{EndsBehind, before_ends, word_ends, number_ends_so, string_ends, name_ends, same_prefix}
 use Rattle.json_exact.proofs.Agreeing.{Halts, bad_here, TakesString, string_stops}
 
 -- ---- which rests count
 
 pub blanks_same : (t : List ℕ) (c : ℕ) (s r : List ℕ) → is_blank c ≡ false → Firm r → Blanks t (c ∷ s) → Blanks t r → r ≡ c ∷ s
 blanks_same t c s r f g h k =
-    firm_front c s r f (blanks_pass h.0 (c ∷ s) r h.1 g (subst (λ (q : List ℕ). Blanks q r) h.2 k))
+    firm_prefix c s r f (blanks_pass h.0 (c ∷ s) r h.1 g (subst (λ (q : List ℕ). Blanks q r) h.2 k))
 
 pub before_counts : (d n : ℕ) (fs : List Frame) (b : Bracket) (rest : List ℕ) (v : Json) → Before d n fs rest v → Counts (no_closing b) rest
 before_counts d n fs b rest v (w, s, t, bl, sp, bh) c h =
@@ -65,14 +65,14 @@ wide_name (no_closing b) d n f fs rest v w h = name_counts d n f fs b rest v h
 pub token_counts : (limit : Limit) (c : ℕ) (q : List ℕ) → is_blank c ≡ false → IsOpenFor limit c → Counts limit (c ∷ q)
 token_counts any c q f h = tt
 token_counts no_number c q f h = absurd h
-token_counts (no_closing b) c q f h = λ s bl. h (sym (heads (closing b) c s q (firm_front c q (closing b ∷ s) f bl)))
+token_counts (no_closing b) c q f h = λ s bl. h (sym (heads (closing b) c s q (firm_prefix c q (closing b ∷ s) f bl)))
 
-pub front_counts : (limit : Limit) (text : List ℕ) (at e : ℕ) (rest : List ℕ) → at < e → e ≤ length text → IsHere text at limit → Counts limit (slice_range text at e ++ rest)
-front_counts limit text at e rest h k here =
+pub prefix_counts : (limit : Limit) (text : List ℕ) (at e : ℕ) (rest : List ℕ) → at < e → e ≤ length text → IsHere text at limit → Counts limit (slice_range text at e ++ rest)
+prefix_counts limit text at e rest h k here =
     subst (λ (q : List ℕ). Counts limit (q ++ rest)) (sym (range_first text at e h k)) (token_counts limit (slice_index text at) (slice_range text (suc at) e ++ rest) here.firm here.allowed)
 
-front_counts' : (limit : Limit) (text : List ℕ) (at e : ℕ) → at < e → e ≤ length text → IsHere text at limit → Counts limit (slice_range text at e)
-front_counts' limit text at e h k here =
+prefix_counts' : (limit : Limit) (text : List ℕ) (at e : ℕ) → at < e → e ≤ length text → IsHere text at limit → Counts limit (slice_range text at e)
+prefix_counts' limit text at e h k here =
     subst (λ (q : List ℕ). Counts limit q) (sym (range_first text at e h k)) (token_counts limit (slice_index text at) (slice_range text (suc at) e) here.firm here.allowed)
 
 -- ---- a token that stops
@@ -87,9 +87,9 @@ token_halts text at k limit Rest h j here rc alive dead over = record {
   alive = alive;
   alive_counts = λ rest v r. rc _ (slice_range text at k ++ rest) v r;
   dead = dead;
-  dead_counts = λ in' rest. front_counts limit text at (suc k) rest (omega arith) (omega arith) here;
+  dead_counts = λ in' rest. prefix_counts limit text at (suc k) rest (omega arith) (omega arith) here;
   over = over;
-  over_counts = λ e. (let in' : at < length text = here.in_text in front_counts' limit text at k (omega arith) j here);
+  over_counts = λ e. (let in' : at < length text = here.in_text in prefix_counts' limit text at k (omega arith) j here);
 }
 
 -- no token stands there
@@ -99,7 +99,7 @@ pub other_halts : (text : List ℕ) (at : ℕ) (limit : Limit) (Rest : ℕ → �
     → ((more n : ℕ) (rest : List ℕ) (v : Json) → Rest (depth_limit + more) n (slice_index text at ∷ rest) v → ⊥)
     → Halts text at at limit Rest
 other_halts text at limit Rest h rc counts alive dead = record {
-  alive = same_front depth_limit at [] (slice_range text at at) Rest (sym (range_none text at)) alive;
+  alive = same_prefix depth_limit at [] (slice_range text at at) Rest (sym (range_none text at)) alive;
   alive_counts = λ rest v r. rc _ (slice_range text at at ++ rest) v r;
   dead = λ in' more n rest v r. dead more n rest v (subst (λ (q : List ℕ). Rest (depth_limit + more) n (q ++ rest) v) (range_one text at h) r);
   dead_counts = λ in' rest. subst (λ (q : List ℕ). Counts limit (q ++ rest)) (sym (range_one text at h)) (counts rest);
@@ -114,7 +114,7 @@ pub end_halts : (text : List ℕ) (at : ℕ) (limit : Limit) (Rest : ℕ → ℕ
     → ((more n : ℕ) (v : Json) → Rest (depth_limit + more) n [] v → ⊥)
     → Halts text at at limit Rest
 end_halts text at limit Rest h rc counts alive over = record {
-  alive = same_front depth_limit at [] (slice_range text at at) Rest (sym (range_none text at)) alive;
+  alive = same_prefix depth_limit at [] (slice_range text at at) Rest (sym (range_none text at)) alive;
   alive_counts = λ rest v r. rc _ (slice_range text at at ++ rest) v r;
   dead = λ in'. absurd (omega arith);
   dead_counts = λ in'. absurd (omega arith);
@@ -145,8 +145,8 @@ takes_name f fs = record {
 }
 
 -- the bytes of a part that are those of a list below are none but backslashes if that has none
-in_front : (text : List ℕ) (at k s : ℕ) (q : List ℕ) → slice_range text at k ≡ q → at ≤ s → s < k → get_or q (s - at) 0 ≡ slice_index text s
-in_front text at k s q e h j =
+in_prefix : (text : List ℕ) (at k s : ℕ) (q : List ℕ) → slice_range text at k ≡ q → at ≤ s → s < k → get_or q (s - at) 0 ≡ slice_index text s
+in_prefix text at k s q e h j =
     let z : at + (s - at) ≡ s = omega arith in
     let b : get_or (slice_range text at k) (s - at) 0 ≡ get_or text (at + (s - at)) 0 = range_byte text at k (s - at) (omega arith) in
     ap (λ (y : List ℕ). get_or y (s - at) 0) (sym e) ∙ b ∙ ap (λ (m : ℕ). get_or text m 0) z
@@ -173,7 +173,7 @@ all_take (b ∷ q) (suc i) a = (a.0, all_take q i a.1)
 pub plain_part : (text : List ℕ) (at k : ℕ) (q : List ℕ) → k ≤ length text → slice_range text at k ≡ q → All92 q → (s : ℕ) → at ≤ s → s < k → slice_index text s ≢ 92
 plain_part text at k q h e a s l m x =
     let len : length q ≡ k - at = ap length (sym e) ∙ length_range text at k h in
-    all_at q (s - at) (omega arith) a (in_front text at k s q e l m ∙ x)
+    all_at q (s - at) (omega arith) a (in_prefix text at k s q e l m ∙ x)
 
 pub number_plain : (s : Last) (p : List ℕ) → written s p ≢ Misplaced → All92 p
 number_plain s [] h = tt
@@ -213,7 +213,7 @@ word_bad text at k i limit fs w a here e h =
     let size : k - at ≡ suc i = omega arith in
     let before : slice_range text at k ≡ take (suc i) (letters w) = h.before ∙ ap (λ (m : ℕ). take m (letters w)) size in
     let byte : k < length text → slice_index text k ≢ get_or (letters w) (suc i) 0 = λ in' x. h.byte in' (x ∙ ap (λ (m : ℕ). get_or (letters w) m 0) (sym size)) in
-    let alive : EndsBehind depth_limit at (slice_range text at k) (λ d n. Before d n fs) = same_front depth_limit at (take (suc i) (letters w)) (slice_range text at k) (λ d n. Before d n fs) (sym before) (word_ends depth_limit at fs w (suc i)) in
+    let alive : EndsBehind depth_limit at (slice_range text at k) (λ d n. Before d n fs) = same_prefix depth_limit at (take (suc i) (letters w)) (slice_range text at k) (λ d n. Before d n fs) (sym before) (word_ends depth_limit at fs w (suc i)) in
     let t : Halts text at k limit (λ d n. Before d n fs) = token_halts text at k limit (λ d n. Before d n fs) (omega arith) f here (λ n rest v r. wide_before limit depth_limit n fs rest v (wide_here limit _ here.allowed) r) alive
     (λ in' more n rest v r. stuck.word_dead (depth_limit + more) n fs w i (slice_index text k) rest v lt (byte in')
     (subst (λ (q : List ℕ). Before (depth_limit + more) n fs q v)

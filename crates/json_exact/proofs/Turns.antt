@@ -4,19 +4,19 @@ use Rattle.std.proofs.lemmas.Bool.{both_ways, eqb-false, cases_lt}
 use Rattle.std.proofs.lemmas.List.{append-nil}
 use Rattle.json_exact.specs.Json.{Word, null_word, true_word, false_word, word, number, string, Bracket, square, curly, Json}
 use Rattle.json_exact.specs.Characters.{decoded}
-use Rattle.json_exact.specs.Numbers.{is_digit}
+use Rattle.json_exact.specs.JsonNumbers.{is_digit}
 use Rattle.json_exact.specs.Scans.{written, may_end}
 use Rattle.json_exact.specs.JsonText.{AreBlanks, letters, opening, closing}
-use Rattle.json_exact.specs.Reading.{Frame, Before, Opened, Limit, any, Counts}
+use Rattle.json_exact.specs.JsonRests.{Frame, Before, Opened, Limit, any, Counts}
 use Rattle.json_exact.specs.declared.scan.Last.TheVariants.{Nothing}
 use Rattle.json_exact.proofs.Digits.{ends_placed, is_number}
 use Rattle.json_exact.proofs.Steps.{frame}
 use Rattle.std.proofs.Common.{Result, Ok, Err}
 use Rattle.std.specs.Prelude.{slice_range, slice_index, MatchResult}
 use Rattle.json_exact.specs.JsonText.{SpelledWithin}
-use Rattle.json_exact.specs.Refusals.{depth_limit, IsBad, IsTooDeep, IsRefused}
+use Rattle.json_exact.specs.JsonRefusals.{depth_limit, IsBad, IsTooDeep, IsRefused}
 use Rattle.json_exact.specs.Scans.{StopsWord, StopsNumber, CountsString, EndsString, PassesBlanks, PassesWord, PassesNumber}
-use Rattle.json_exact.specs.Reading.{Agrees, IsHere, IsClear, Holds, ReadsValue, ReadsValueHere, Reads, Opens, with_kind, StopsLeaf, in_word, in_number as stops_number, in_string, EndsLeaf, kind_of, kind_of_bracket, limit_of_kind, cell, cells_done, name_cells, open_cells, top_of}
+use Rattle.json_exact.specs.JsonRests.{Agrees, IsHere, IsClear, Holds, ReadsValue, ReadsValueHere, Reads, Opens, with_kind, StopsLeaf, in_word, in_number as stops_number, in_string, EndsLeaf, kind_of, kind_of_bracket, limit_of_kind, cell, cells_done, name_cells, open_cells, top_of}
 use Rattle.json_exact.specs.declared.error.JsonError.{JsonError}
 use Rattle.json_exact.specs.declared.reader.Reader.{Reader}
 use Rattle.json_exact.specs.declared.reader.Next.{Next}

@@ -5,7 +5,7 @@ use Rattle.std.proofs.lemmas.List.{take-append-drop}
 use Rattle.std.specs.Prelude.{slice_range}
 use Rattle.json_exact.specs.Json.{Json}
 use Rattle.json_exact.specs.JsonText.{SpelledWithin}
-use Rattle.json_exact.specs.Refusals.{depth_limit, CanGoOn, Stops, IsAlone, EndsDigits, CountsAt, IsBad, IsTooDeep, IsRefused}
+use Rattle.json_exact.specs.JsonRefusals.{depth_limit, CanGoOn, Stops, IsAlone, EndsDigits, CountsAt, IsBad, IsTooDeep, IsRefused}
 use Rattle.json_exact.specs.declared.error.JsonError.{JsonError}
 use Rattle.json_exact.specs.declared.error.JsonError.TheVariants.{Bad, TooDeep, OutOfMemory}
 use Rattle.json_exact.proofs.Ranges.{up_to_with}
@@ -22,7 +22,7 @@ bad_not_spelled : (text : List ℕ) (k : ℕ) (v : Json) → Stops text k → Sp
 bad_not_spelled text k v s sp (inl lt) = s.byte lt 0 (spelled_goes_on depth_limit text v (suc k) sp)
 bad_not_spelled text k v s sp (inr le) = (let f : k ≤ length text = s.in_text in s.whole (omega arith) 0 v sp)
 
--- a text that has a value is refused for want of memory alone
+-- a text that has a value is refused for running out of memory alone
 pub only_memory : (text : List ℕ) (v : Json) (e : JsonError) → SpelledWithin depth_limit text v → IsRefused text e → e ≡ OutOfMemory
 only_memory text v (Bad at) sp h = absurd (bad_not_spelled text h.0 v h.1 sp (cases_lt h.0 (length text)))
 only_memory text v (TooDeep at) sp h = absurd (h.too_deep (spelled_goes_on depth_limit text v (suc at) sp))
@@ -90,7 +90,7 @@ same_deep text a b x y (inl e) = e
 same_deep text a b x y (inr (inl lt)) = (let h : b < length text = y.in_text in absurd (x.too_deep (earlier depth_limit text (suc a) b lt (omega arith) y.before)))
 same_deep text a b x y (inr (inr lt)) = (let h : a < length text = x.in_text in absurd (y.too_deep (earlier depth_limit text (suc b) a lt (omega arith) x.before)))
 
--- two refusals of a text are one, but for want of memory
+-- two refusals of a text are one, but for running out of memory
 pub one_refusal : (text : List ℕ) (e f : JsonError) → IsRefused text e → IsRefused text f → e ≢ OutOfMemory → (f ≡ e) ⊎ (f ≡ OutOfMemory)
 one_refusal text (Bad a) (Bad b) x y n = inl (ap (λ (m : ℕ). Bad m) (same_bad text b a y x))
 one_refusal text (Bad a) (TooDeep b) x y n = absurd (bad_or_deep text x.0 b x.1 y (cases_order x.0 b))

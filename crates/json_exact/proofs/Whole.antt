@@ -2,16 +2,16 @@
 use Rattle.std.proofs.Common.{◌≡◌, ◌≢◌, ℕ, List, length, sym, ◌∙◌, ap, subst}
 use Rattle.json_exact.specs.Json.{Json}
 use Rattle.json_exact.specs.JsonText.{SpelledWithin}
-use Rattle.json_exact.specs.Refusals.{depth_limit, IsRefused}
-use Rattle.json_exact.specs.Reading.{IsRead}
-use Rattle.json_exact.specs.Cells.{first_value}
+use Rattle.json_exact.specs.JsonRefusals.{depth_limit, IsRefused}
+use Rattle.json_exact.specs.JsonRests.{IsRead}
+use Rattle.json_exact.specs.JsonCells.{first_value}
 use Rattle.json_exact.specs.declared.cells.Cell.{Cell}
 use Rattle.json_exact.specs.declared.error.JsonError.{JsonError}
 use Rattle.json_exact.specs.declared.error.JsonError.TheVariants.{OutOfMemory}
 use Rattle.json_exact.proofs.Decoding.{decoded_value}
-use Rattle.json_exact.specs.Texts.{AreTexts}
+use Rattle.json_exact.specs.CellTexts.{AreTexts}
 use Rattle.json_exact.proofs.TextCells.{are_texts}
-use Rattle.json_exact.specs.Spans.{IsPlaced}
+use Rattle.json_exact.specs.ValueSpans.{IsPlaced}
 use Rattle.json_exact.proofs.Placed.{spelled_placed}
 use Rattle.json_exact.proofs.Unique.{only_memory}
 

@@ -1,7 +1,7 @@
 -- The JSON values that handles stand for.
 use Rattle.std.specs.Prelude.{List}
 use Rattle.json_exact.specs.Json.{square, Json as Value', values}
-use Rattle.json_exact.specs.Cells.{first_value, all_parts}
+use Rattle.json_exact.specs.JsonCells.{first_value, all_parts}
 use Rattle.json_exact.specs.declared.handles.Value.{Value}
 use Rattle.json_exact.specs.declared.handles.Items.{Items}
 use Rattle.json_exact.specs.declared.handles.Json.{Json}

@@ -4,7 +4,7 @@
 use Rattle.std.specs.Prelude.{◌≡◌, ℕ, suc, ◌+◌, List, [], ◌∷◌, ◌++◌, length, Bool, ◌||◌, ◌==◌, IsTrue, Option, Some, None}
 use Rattle.json_exact.specs.Json.{Word, null_word, true_word, false_word, Leaf, word, number, string, Bracket, square, curly, Name, Json, leaf, nest, Parts, no_parts, part}
 use Rattle.json_exact.specs.Characters.{AreCharacters, decoded}
-use Rattle.json_exact.specs.Numbers.{IsNumber}
+use Rattle.json_exact.specs.JsonNumbers.{IsNumber}
 
 -- space, tab, line feed, carriage return
 abbrev pub is_blank : ℕ → Bool

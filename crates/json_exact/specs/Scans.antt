@@ -2,9 +2,9 @@
 -- This is what the reader keeps, and no caller needs it.
 use Rattle.std.specs.Prelude.{◌≡◌, ◌≢◌, ℕ, suc, ◌+◌, ◌-◌, ◌<◌, ◌≤◌, ◌⊎◌, List, [], ◌∷◌, length, take, slice_range, slice_index, Bool, true, false, cond, ◌||◌, ◌==◌}
 use Rattle.json_exact.specs.Characters.{Way, refused, whole, one, tail, steps, within, is_hex, is_d, is_low_digit, AreCharacters}
-use Rattle.json_exact.specs.Numbers.{is_digit, is_mark}
+use Rattle.json_exact.specs.JsonNumbers.{is_digit, is_mark}
 use Rattle.json_exact.specs.JsonText.{is_blank, AreBlanks}
-use Rattle.json_exact.specs.Refusals.{IsSurrogate, CountsAt}
+use Rattle.json_exact.specs.JsonRefusals.{IsSurrogate, CountsAt}
 use Rattle.json_exact.specs.declared.scan.Last.{Last}
 use Rattle.json_exact.specs.declared.scan.Last.TheVariants.{Nothing, Minus, Zero, Whole, Point, Fraction, Mark, Sign, Exponent, Misplaced}
 use Rattle.json_exact.specs.declared.strings.Class.{Class}

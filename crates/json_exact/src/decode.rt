@@ -3,7 +3,7 @@
 ghost use Rattle.std.specs.Prelude.{◌≡◌, ◌+◌, ◌<◌, ◌≤◌, ◌++◌, length, take, drop, IsTrue, MatchResult};
 ghost use Rattle.std.specs.Char.{encode_utf8};
 ghost use Rattle.json_exact.specs.Characters.{hex_value, code_unit, short_value, decoded};
-ghost use Rattle.json_exact.specs.Bytes.{same_bytes, begins_with, piece_bytes, Fronts};
+ghost use Rattle.json_exact.specs.ByteComparisons.{same_bytes, begins_with, piece_bytes, Prefixes};
 
 use std::alloc::AllocError;
 
@@ -99,9 +99,9 @@ fn encoded(code: u32, used: usize) -> Piece
 }
 
 /// What the character at the front stands for.
-fn front(raw: &[u8]) -> Piece
+fn prefix(raw: &[u8]) -> Piece
     requires { 0 < length raw.now }
-    ensures { Fronts raw.now result }
+    ensures { Prefixes raw.now result }
 {
     let first = raw[0];
     if first != b'\\' {
@@ -166,7 +166,7 @@ pub(crate) fn append(raw: &[u8], out: &mut Vec<u8>) -> Result<(), AllocError>
 {
     let mut i = 0;
     'characters: while i < raw.len() {
-        let piece = front(behind(raw, i));
+        let piece = prefix(behind(raw, i));
         out.extend_from_slice(piece.bytes())?;
         i += piece.used;
     }
@@ -174,15 +174,15 @@ pub(crate) fn append(raw: &[u8], out: &mut Vec<u8>) -> Result<(), AllocError>
 }
 
 /// Whether the text begins with these bytes.
-fn begins_with(text: &[u8], front: &[u8]) -> bool
-    ensures value { result ≡ begins_with front.now text.now }
-    ensures fits { IsTrue result → length front.now ≤ length text.now }
+fn begins_with(text: &[u8], prefix: &[u8]) -> bool
+    ensures value { result ≡ begins_with prefix.now text.now }
+    ensures fits { IsTrue result → length prefix.now ≤ length text.now }
 {
-    if text.len() < front.len() {
+    if text.len() < prefix.len() {
         return false;
     }
-    'bytes: for i in 0..front.len() {
-        if front[i] != text[i] {
+    'bytes: for i in 0..prefix.len() {
+        if prefix[i] != text[i] {
             return false;
         }
     }
@@ -196,7 +196,7 @@ pub(crate) fn spells(raw: &[u8], name: &[u8]) -> bool
     let mut i = 0;
     let mut j = 0;
     'characters: while i < raw.len() {
-        let piece = front(behind(raw, i));
+        let piece = prefix(behind(raw, i));
         if !begins_with(behind(name, j), piece.bytes()) {
             return false;
         }

@@ -18,13 +18,13 @@ pub enum JsonError {
 }
 
 impl HasReason for JsonError {
-    ghost use Rattle.json_exact.specs.Reasons.{json_reason};
+    ghost use Rattle.json_exact.specs.JsonReasons.{json_reason};
 
     ghost reason_of = { json_reason };
 
     ghost depth = { 1 };
 
-    /// What it is called, its number and its byte of the text. Want of memory has no number, which is written 0, and
+    /// What it is called, its number and its byte of the text. Running out of memory has no number, which is written 0, and
     /// no place.
     fn reason(&self) -> Reason {
         match self {
@@ -60,7 +60,7 @@ impl<T: Drop> From<AllocFailed<T>> for JsonError {
 impl fmt::Display for JsonError {
     ghost use Rattle.std.specs.Prelude.{Some};
     ghost use Rattle.plain_types.specs.Reasons.{written};
-    ghost use Rattle.json_exact.specs.Reasons.{json_reason};
+    ghost use Rattle.json_exact.specs.JsonReasons.{json_reason};
 
     ghost output = { λ e. Some (written (json_reason e)) };
 

@@ -1,8 +1,8 @@
 //! A text that was read, and handles on its values.
 
 ghost use Rattle.std.specs.Prelude.{ℕ, List, ◌≡◌, ◌+◌, ◌-◌, ◌≤◌, length, drop, slice_range};
-ghost use Rattle.json_exact.specs.Cells.{first_kind, first_inside, own_cells, other_cells};
-ghost use Rattle.json_exact.specs.Texts.{AreTexts, AreTexts-prop};
+ghost use Rattle.json_exact.specs.JsonCells.{first_kind, first_inside, own_cells, other_cells};
+ghost use Rattle.json_exact.specs.CellTexts.{AreTexts, AreTexts-prop};
 
 use crate::cells::{Cell, Kind};
 use crate::decode;
@@ -77,7 +77,7 @@ impl<'j, 't> Value<'j, 't> {
     ghost use Rattle.std.specs.Prelude.{◌++◌, [], true, false, None, Some, IfOk, OnErr, MatchOption, unwrap_or, IsUtf8};
     ghost use Rattle.std.specs.Option.{option_map};
     ghost use Rattle.json_exact.specs.Json.{begins_at, ends_at, items, member, number_of, text_of, is_null, is_list, is_object};
-    ghost use Rattle.json_exact.specs.Bytes.{same_bytes};
+    ghost use Rattle.json_exact.specs.ByteComparisons.{same_bytes};
     ghost use Rattle.json_exact.specs.Handles.{json_of, items_left};
 
     /// What kind of value it is.

@@ -4,8 +4,8 @@ ghost use Rattle.std.specs.Prelude.{ℕ, List, ◌≡◌, ◌≢◌, ◌⊎◌, 
 ghost use Rattle.plain_types.specs.Limits.{IsReadable};
 ghost use Rattle.json_exact.specs.Json.{Json as JsonValue};
 ghost use Rattle.json_exact.specs.JsonText.{SpelledWithin};
-ghost use Rattle.json_exact.specs.Refusals.{IsRefused, depth_limit};
-ghost use Rattle.json_exact.specs.Spans.{IsPlaced};
+ghost use Rattle.json_exact.specs.JsonRefusals.{IsRefused, depth_limit};
+ghost use Rattle.json_exact.specs.ValueSpans.{IsPlaced};
 ghost use Rattle.json_exact.specs.Handles.{value_of};
 
 use crate::error::JsonError;

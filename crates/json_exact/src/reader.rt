@@ -2,8 +2,8 @@
 
 ghost use Rattle.std.specs.Prelude.{◌≡◌, ◌+◌, ◌-◌, ◌<◌, ◌≤◌, length, IfOk, IfErr, MatchResult};
 ghost use Rattle.plain_types.specs.Limits.{IsInText, IsReadable};
-ghost use Rattle.json_exact.specs.Refusals.{IsRefused};
-ghost use Rattle.json_exact.specs.Reading.{EndsLeaf, StopsLeaf, ReadsValue, ReadsValueHere, ReadsName, ReadsNameHere, ReadsColon, ReadsFirst, ReadsBehind, Reads, Puts, Opens, Closes, HasOpen, finished, closing_of, with_kind, IsRead};
+ghost use Rattle.json_exact.specs.JsonRefusals.{IsRefused};
+ghost use Rattle.json_exact.specs.JsonRests.{EndsLeaf, StopsLeaf, ReadsValue, ReadsValueHere, ReadsName, ReadsNameHere, ReadsColon, ReadsFirst, ReadsBehind, Reads, Puts, Opens, Closes, HasOpen, finished, closing_of, with_kind, IsRead};
 
 use crate::cells::{Cell, Kind};
 use crate::error::JsonError;

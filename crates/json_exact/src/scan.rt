@@ -1,7 +1,7 @@
 //! Readers of what has no brackets: blanks, words and numbers.
 
 ghost use Rattle.std.specs.Prelude.{◌≡◌, ◌+◌, ◌<◌, ◌≤◌, length, MatchResult};
-ghost use Rattle.json_exact.specs.Numbers.{is_digit};
+ghost use Rattle.json_exact.specs.JsonNumbers.{is_digit};
 ghost use Rattle.json_exact.specs.JsonText.{is_blank};
 ghost use Rattle.json_exact.specs.Scans.{PassesBlanks, PassesWord, StopsWord, PassesNumber, StopsNumber, is_in_number, then, may_end};
 

@@ -2,7 +2,7 @@
 
 ghost use Rattle.std.specs.Prelude.{◌≡◌, ◌↔◌, ◌+◌, ◌<◌, ◌≤◌, false, length, MatchResult, IfErr, slice_index, IsTrue};
 ghost use Rattle.json_exact.specs.Characters.{is_plain, is_hex, is_d, is_high_digit, is_low_digit, is_short, escape, digits, surrogate, two_digits, low_half, within, character};
-ghost use Rattle.json_exact.specs.Refusals.{EndsDigits};
+ghost use Rattle.json_exact.specs.JsonRefusals.{EndsDigits};
 ghost use Rattle.json_exact.specs.Scans.{PassesWay, StopsWay, PassesCharacter, StopsCharacter, IsHalf, EndsString, CountsCharacter, CountsString, accepts, way_of, four_bytes};
 
 /// What one byte of a character may be.

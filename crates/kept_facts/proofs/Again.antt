@@ -7,13 +7,13 @@ use Rattle.board_items.specs.declared.item.Item.{Item}
 use Rattle.board_items.specs.Boards.{PlainBoard, item_at}
 use Rattle.board_laws.specs.Edits.{IsEdit}
 use Rattle.board_laws.proofs.Rest.{contains_filter}
-use Rattle.net_class.specs.Classes.{PlainClasses}
+use Rattle.net_class.specs.NetClasses.{PlainClasses}
 use Rattle.rule_pick.specs.declared.facts.Facts.{Facts}
 use Rattle.rule_pick.specs.ById.{facts_at, IsPut}
 use Rattle.rule_pick.specs.FactsOf.{AreFactsOf}
 use Rattle.rule_pick.specs.AllFacts.{HasFacts}
-use Rattle.kept_facts.specs.Kept.{AreSuspects, AreRefreshed, AreNoted, AreMarksBefore, AreChanged}
-use Rattle.kept_facts.specs.Walks.{AreAsked, IsOwn, IsFoundAgain, AreFoundAgain}
+use Rattle.kept_facts.specs.FactUpdates.{AreSuspects, AreRefreshed, AreNoted, AreMarksBefore, AreChanged}
+use Rattle.kept_facts.specs.ConcernedItems.{AreAsked, IsOwn, IsFoundAgain, AreFoundAgain}
 use Rattle.kept_facts.proofs.Concerns.{unconcerned}
 use Rattle.kept_facts.proofs.Keeps.{facts_are_kept, is_step}
 use Rattle.kept_facts.proofs.Rising.{rise_push, below_at}
@@ -233,8 +233,8 @@ module _ (old new : PlainBoard) (classes : PlainClasses) (ids : List ℕ) (befor
           by (inr h) (inl s) (inr i) = inr (s, h)
           by (inr h) (inr free) (inr out) = absurd (h (quiet id out (found.from id c) free))
 
-  pub renewed : HasFacts new classes now × AreChanged old new classes ids kept now changed
-  renewed = (
+  pub updated : HasFacts new classes now × AreChanged old new classes ids kept now changed
+  updated = (
     facts_are_kept old new classes ids suspects edit are_suspects kept now had are_refreshed,
     record { rise = found.rise; own = are_noted.own; only = found.only; step = λ rules. is_step old new classes ids suspects edit are_suspects kept now had are_refreshed rules changed are_noted },
   )

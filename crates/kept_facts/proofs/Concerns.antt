@@ -10,16 +10,16 @@ use Rattle.board_items.specs.declared.item.What.{What}
 use Rattle.board_items.specs.declared.item.What.TheVariants as what
 use Rattle.board_items.specs.Boards.{PlainBoard, item_at}
 use Rattle.board_items.specs.Extents.{AreBoundsOf}
-use Rattle.board_items.specs.Parts.{parts_of}
-use Rattle.board_index.specs.Holding.{HoldsItems}
+use Rattle.board_items.specs.ItemParts.{parts_of}
+use Rattle.board_index.specs.IndexedItems.{HoldsItems}
 use Rattle.box_index.specs.Reached.{HasReached, AreSorted}
 use Rattle.box_index.specs.Tiles.{PlainIndex}
 use Rattle.rule_pick.specs.FactsOf.{MeetsArea, MeetsCourtyard}
-use Rattle.item_facts.specs.Near.{IsNear, HoldsMarks}
+use Rattle.item_facts.specs.NearItems.{MayMeetItem, HoldsMarks}
 use Rattle.item_facts.proofs.MarkBoxes.{near_area, near_courtyard}
 use Rattle.item_facts.proofs.Marked.{no_parts}
-use Rattle.kept_facts.specs.Kept.{mark_at, mark_of, GivesIf, GiveSame, IsUnconcerned, AreMarksBefore}
-use Rattle.kept_facts.specs.Walks.{IsNameIf, HasNear, HasOthers, HasConcerned, AreAskedTo}
+use Rattle.kept_facts.specs.FactUpdates.{mark_at, mark_of, GivesIf, GiveSame, IsUnconcerned, AreMarksBefore}
+use Rattle.kept_facts.specs.ConcernedItems.{IsNameIf, HasNear, HasOthers, HasConcerned, AreAskedTo}
 use Rattle.kept_facts.proofs.Stays.{among, giver}
 
 -- ---- one name
@@ -81,7 +81,7 @@ module _ (item : Item) (before now : Option Item) where
 -- ---- what is near
 
 abbrev Far : Item → Option Item → Type 0
-Far item x = (other : Item) → x ≡ Some other → IsNear item other → ⊥
+Far item x = (other : Item) → x ≡ Some other → MayMeetItem item other → ⊥
 
 -- what is far gives nothing
 pub far_same : (item : Item) (before now : Option Item) → Far item before → Far item now → GiveSame item before now

@@ -4,7 +4,7 @@ use Rattle.std.specs.List.{Contains}
 use Rattle.copper_layers.specs.declared.set.LayerSet.{LayerSet}
 use Rattle.board_items.specs.declared.item.Item.{Item}
 use Rattle.board_items.specs.Boards.{PlainBoard, item_at}
-use Rattle.net_class.specs.Classes.{PlainClasses}
+use Rattle.net_class.specs.NetClasses.{PlainClasses}
 use Rattle.cond_lang.specs.Rules.{PlainRule}
 use Rattle.rule_pick.specs.declared.facts.Facts.{Facts}
 use Rattle.rule_pick.specs.ById.{facts_at}
@@ -14,8 +14,8 @@ use Rattle.rule_pick.specs.AllFacts.{HasFacts}
 use Rattle.rule_pick.proofs.OneFacts.{one_facts}
 use Rattle.pair_check.specs.Rows.{Checked, Stands}
 use Rattle.board_laws.specs.Edits.{IsEdit}
-use Rattle.kept_rows.specs.Steps.{IsStep}
-use Rattle.kept_facts.specs.Kept.{AreSuspects, AreRefreshed, AreNoted}
+use Rattle.kept_rows.specs.CheckChanges.{IsCheckChange}
+use Rattle.kept_facts.specs.FactUpdates.{AreSuspects, AreRefreshed, AreNoted}
 use Rattle.kept_facts.proofs.Stays.{among, facts_stay}
 
 some_not_none : (f : Facts) (x : Option Facts) → x ≡ Some f → x ≡ None → ⊥
@@ -126,5 +126,5 @@ module _ (old new : PlainBoard) (classes : PlainClasses) (ids suspects : List �
             subst (λ (g : Facts). AreFactsOf old classes item g) (one_facts new classes item f.0 facts (stay id item f.0 s.item_is free its) s.facts_are) its
 
     -- the edit is a step of what is checked
-    pub is_step : IsStep before after changed
+    pub is_step : IsCheckChange before after changed
     is_step = record { same = ap (λ (copper : LayerSet). record { copper = copper; mins = classes.mins; rules = rules }) edit.copper; stays = stays; stayed = stayed }

@@ -6,11 +6,11 @@ use Rattle.board_items.specs.declared.item.What.{What}
 use Rattle.board_items.specs.Boards.{PlainBoard, item_at, is_mark, name_of}
 use Rattle.board_laws.specs.Edits.{IsEdit, is_one_of}
 use Rattle.board_laws.proofs.Rest.{Under, rises, found_at, in_list, one_of, is_there}
-use Rattle.net_class.specs.Classes.{PlainClasses}
+use Rattle.net_class.specs.NetClasses.{PlainClasses}
 use Rattle.rule_pick.specs.declared.facts.Facts.{Facts}
 use Rattle.rule_pick.specs.FactsOf.{MeetsArea, MeetsCourtyard, AreNamesOf, AreFactsOf, class_of_net}
 use Rattle.item_facts.proofs.MarkBoxes.{near_area, near_courtyard}
-use Rattle.kept_facts.specs.Kept.{mark_if, mark_at, GivesIf, IsUnconcerned}
+use Rattle.kept_facts.specs.FactUpdates.{mark_if, mark_at, GivesIf, IsUnconcerned}
 use Rattle.kept_facts.proofs.Names.{IsGiven, GivesAll, same_names}
 
 -- an id is among them or not

@@ -5,11 +5,11 @@ ghost use Rattle.std.specs.Option.{option_copied};
 ghost use Rattle.geo_seg.specs.Boxes.{FitsWithin};
 ghost use Rattle.board_items.specs.declared.item.Item.{Item};
 ghost use Rattle.board_items.specs.Boards.{item_at};
-ghost use Rattle.board_items.specs.Parts.{parts_of};
+ghost use Rattle.board_items.specs.ItemParts.{parts_of};
 ghost use Rattle.board_items.specs.Extents.{AreBoundsOf};
-ghost use Rattle.board_index.specs.Holding.{HoldsItems};
-ghost use Rattle.kept_facts.specs.Kept.{GiveSame};
-ghost use Rattle.kept_facts.specs.Walks.{HasNear, HasOthers, HasConcerned, AreAsked};
+ghost use Rattle.board_index.specs.IndexedItems.{HoldsItems};
+ghost use Rattle.kept_facts.specs.FactUpdates.{GiveSame};
+ghost use Rattle.kept_facts.specs.ConcernedItems.{HasNear, HasOthers, HasConcerned, AreAsked};
 
 use crate::marks::{give_same, mark_at, mark_of};
 use board_items::{Board, Item};
@@ -27,7 +27,8 @@ fn bounds_of(item: &Item) -> Option<Bounds>
 
 /// Appends the ids of the entries whose boxes meet that of the area or body.
 fn push_near(index: &TileIndex, mark: Option<&Item>, ids: &mut Vec<u32>) -> Result<(), AllocError>
-    ensures { OnOk result (HasNear index.now (option_copied mark.entry) ids.old.items ids.new.items) }
+    ensures { OnOk result (HasNear index.now
+        (option_copied mark.entry) ids.old.items ids.new.items) }
 {
     match mark {
         None => Ok(()),
@@ -40,7 +41,8 @@ fn push_near(index: &TileIndex, mark: Option<&Item>, ids: &mut Vec<u32>) -> Resu
 
 /// Whether the item of the id, if there is one, has the same name from the one as from the other.
 fn is_unconcerned(board: &Board, id: u32, before: Option<&Item>, now: Option<&Item>) -> bool
-    ensures { IsTrue result ↔ ((item : Item) → item_at board.now.items id ≡ Some item → GiveSame item (option_copied before.entry) (option_copied now.entry)) }
+    ensures { IsTrue result ↔ ((item : Item) → item_at board.now.items id ≡ Some item
+        → GiveSame item (option_copied before.entry) (option_copied now.entry)) }
 {
     match board.get(id) {
         None => true,
@@ -56,7 +58,8 @@ fn push_others(
     now: Option<&Item>,
     asked: &mut Vec<u32>,
 ) -> Result<(), AllocError>
-    ensures { OnOk result (HasOthers board.now near.now (option_copied before.entry) (option_copied now.entry) asked.old.items asked.new.items) }
+    ensures { OnOk result (HasOthers board.now near.now (option_copied before.entry)
+        (option_copied now.entry) asked.old.items asked.new.items) }
 {
     for id in near {
         if !is_unconcerned(board, *id, before, now) {
@@ -76,7 +79,8 @@ fn push_concerned(
     asked: &mut Vec<u32>,
 ) -> Result<(), AllocError>
     requires { HoldsItems board.now index.now }
-    ensures { OnOk result (HasConcerned board.now (option_copied before.entry) (option_copied now.entry) asked.old.items asked.new.items) }
+    ensures { OnOk result (HasConcerned board.now (option_copied before.entry)
+        (option_copied now.entry) asked.old.items asked.new.items) }
 {
     near.clear();
     push_near(index, before, near)?;

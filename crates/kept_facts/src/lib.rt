@@ -5,7 +5,7 @@
 mod asking;
 pub mod laws;
 mod marks;
-mod renewing;
+mod updating;
 
 pub use marks::marks_before;
-pub use renewing::renew_facts;
+pub use updating::update_facts;

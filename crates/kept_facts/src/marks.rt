@@ -4,8 +4,8 @@ ghost use Rattle.std.specs.Prelude.{◌≡◌, map, IsTrue, ◌↔◌, IfOk};
 ghost use Rattle.std.specs.Option.{option_copied};
 ghost use Rattle.board_items.specs.Boards.{is_mark};
 ghost use Rattle.rule_pick.specs.FactsOf.{MeetsArea, MeetsCourtyard};
-ghost use Rattle.kept_facts.specs.Kept.{mark_at, mark_of, GivesIf, GiveSame, AreMarksBefore};
-ghost use Rattle.kept_facts.specs.Walks.{IsNameIf};
+ghost use Rattle.kept_facts.specs.FactUpdates.{mark_at, mark_of, GivesIf, GiveSame, AreMarksBefore};
+ghost use Rattle.kept_facts.specs.ConcernedItems.{IsNameIf};
 
 use board_items::{Board, Item, What};
 use drc_io::Name;
@@ -65,8 +65,8 @@ fn marks_of(alloc: Global, board: &Board, ids: &[u32]) -> Result<Vec<Option<Item
     Ok(marks)
 }
 
-/// Equal areas and bodies that stand under these ids, in their order, and None for each other id: what `renew_facts` asks for,
-/// taken before the edit. Only want of memory refuses it.
+/// Equal areas and bodies that stand under these ids, in their order, and None for each other id: what `update_facts` asks for,
+/// taken before the edit. Only running out of memory refuses it.
 pub fn marks_before(
     alloc: Global,
     board: &Board,
@@ -79,7 +79,8 @@ pub fn marks_before(
 
 /// The title that the item has from an area, if it meets it.
 fn title_if<'o>(item: &Item, mark: Option<&'o Item>) -> Option<&'o Name>
-    ensures { IsNameIf (GivesIf (MeetsArea item.now) (option_copied mark.entry)) (option_copied result) }
+    ensures { IsNameIf (GivesIf (MeetsArea item.now) (option_copied mark.entry))
+        (option_copied result) }
 {
     match mark {
         None => None,
@@ -89,7 +90,8 @@ fn title_if<'o>(item: &Item, mark: Option<&'o Item>) -> Option<&'o Name>
 
 /// The reference that the item has from a body, if it meets one of its courtyards.
 fn reference_if<'o>(item: &Item, mark: Option<&'o Item>) -> Option<&'o Name>
-    ensures { IsNameIf (GivesIf (MeetsCourtyard item.now) (option_copied mark.entry)) (option_copied result) }
+    ensures { IsNameIf (GivesIf (MeetsCourtyard item.now) (option_copied mark.entry))
+        (option_copied result) }
 {
     match mark {
         None => None,
@@ -109,7 +111,8 @@ fn is_same(a: Option<&Name>, b: Option<&Name>) -> bool
 
 /// Whether the item has the same name from the one as from the other, or none from both.
 pub(crate) fn give_same(item: &Item, before: Option<&Item>, now: Option<&Item>) -> bool
-    ensures { IsTrue result ↔ GiveSame item.now (option_copied before.entry) (option_copied now.entry) }
+    ensures { IsTrue result ↔ GiveSame item.now (option_copied before.entry)
+        (option_copied now.entry) }
 {
     is_same(title_if(item, before), title_if(item, now))
         && is_same(reference_if(item, before), reference_if(item, now))

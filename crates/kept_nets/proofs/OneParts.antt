@@ -2,9 +2,9 @@
 use Rattle.std.proofs.Common.{◌≡◌, sym, ap, subst, refl, ◌∙◌, ℕ, List, [], ◌∷◌}
 use Rattle.std.specs.List.{AllZip}
 use Rattle.board_items.specs.Boards.{PlainBoard}
-use Rattle.net_groups.specs.Chains.{Chain}
+use Rattle.net_groups.specs.StepChains.{Chain}
 use Rattle.net_groups.specs.Anchors.{AreAnchorsOf}
-use Rattle.net_groups.specs.Groups.{HasCopper, Touch, items_of}
+use Rattle.net_groups.specs.NetGroups.{HasCopper, Touch, items_of}
 use Rattle.net_groups.specs.NetParts.{PlainNetPart, IsNetPart, AreParts, real_nets}
 use Rattle.net_groups.proofs.Once.{classes_once}
 use Rattle.net_groups.proofs.AnchorsOf.{anchors_once}

@@ -27,8 +27,8 @@ any_left P works work a = by_place (Contains-push_cases works work a.1 (a.0, a.2
 any_more : (P : Work → Type 0) (works : List Work) (work : Work) → Any P works → Any P (works ++ work ∷ [])
 any_more P works work a = any_has P (works ++ work ∷ []) a.1 (Contains-append_left works (work ∷ []) a.1 (a.0, a.2, a.3)) a.4
 
-pub all_front : (P : Work → Type 0) (works : List Work) (work : Work) → All P (works ++ work ∷ []) → All P works
-all_front P works work all k d lt = All-contains P (works ++ work ∷ []) (get_or works k d) all (Contains-append_left works (work ∷ []) (get_or works k d) (Contains-get_or works k d lt))
+pub all_prefix : (P : Work → Type 0) (works : List Work) (work : Work) → All P (works ++ work ∷ []) → All P works
+all_prefix P works work all k d lt = All-contains P (works ++ work ∷ []) (get_or works k d) all (Contains-append_left works (work ∷ []) (get_or works k d) (Contains-get_or works k d lt))
 
 pub all_last : (P : Work → Type 0) (works : List Work) (work : Work) → All P (works ++ work ∷ []) → P work
 all_last P works work all = All-contains P (works ++ work ∷ []) work all (Contains-push works work)
@@ -36,7 +36,7 @@ all_last P works work all = All-contains P (works ++ work ∷ []) work all (Cont
 pub plan_done : (board : PlainBoard) (nets : List ℕ) (parts after : List PlainNetPart) (works : List Work) (work : Work) (part : PlainNetPart) → work.part ≡ Some part → after ≡ set parts work.place part → IsPlan board nets parts (works ++ work ∷ []) → IsPlan board nets after works
 plan_done board nets parts after works work part found put plan = record {
   long = ap length put ∙ (length-set parts work.place part ∙ plan.long);
-  right = all_front (λ w. (w.place < length nets) × IfSome w.part (IsNetPart board (get_or nets w.place 0))) works work plan.right;
+  right = all_prefix (λ w. (w.place < length nets) × IfSome w.part (IsNetPart board (get_or nets w.place 0))) works work plan.right;
   due = λ k d lt. by_place k d lt (eq_or k work.place);
 }
   where

@@ -4,7 +4,7 @@ use Rattle.std.specs.List.{AllPairs, Contains}
 use Rattle.std.proofs.lemmas.List.Kept.{AllPairs-filter}
 use Rattle.board_items.specs.declared.item.Item.{Item}
 use Rattle.board_items.specs.Boards.{PlainBoard, item_at}
-use Rattle.net_groups.specs.Groups.{is_of_net, items_of}
+use Rattle.net_groups.specs.NetGroups.{is_of_net, items_of}
 use Rattle.board_laws.specs.Edits.{IsEdit, WasOrIs, is_one_of}
 use Rattle.board_laws.proofs.Rest.{Entry, Under, rises, found_at, in_list, one_of, contains_filter, source, passed, is_left, left_id, same_from_elements}
 

@@ -7,10 +7,10 @@ use Rattle.board_items.specs.Boards.{PlainBoard}
 use Rattle.board_laws.specs.Edits.{is_one_of}
 use Rattle.board_laws.proofs.Rest.{is_there}
 use Rattle.net_groups.specs.NetParts.{PlainNetPart}
-use Rattle.net_groups.specs.Groups.{is_of_net}
+use Rattle.net_groups.specs.NetGroups.{is_of_net}
 use Rattle.board_laws.specs.Edits.{IsEdit, WasOrIs}
 use Rattle.net_groups.specs.NetParts.{IsNetPart, AreParts, real_nets}
-use Rattle.kept_nets.specs.Touched.{AreTouched}
+use Rattle.kept_nets.specs.TouchedNets.{AreTouched}
 use Rattle.kept_nets.specs.Works.{AreAt}
 use Rattle.net_groups.proofs.Parts.{part_stays}
 use Rattle.kept_nets.proofs.Stays.{net_stays}

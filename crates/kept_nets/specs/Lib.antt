@@ -1,2 +1,2 @@
-pub mod Touched
+pub mod TouchedNets
 pub mod Works

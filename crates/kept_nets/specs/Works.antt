@@ -7,7 +7,7 @@ use Rattle.net_groups.specs.NetParts.{PlainNetPart}
 use Rattle.kept_nets.specs.declared.works.Work.{Work}
 use Rattle.net_groups.specs.NetParts.{IsNetPart}
 
--- the same works, of which each has found its part or met a want of memory
+-- the same works, of which each has found its part or ran out of memory
 pub record AreFound (board : PlainBoard) (works after : List Work) : Type 0 where
   pub long : length after ≡ length works
   pub each : (j : ℕ) (d : Work) → j < length works → ((slice_index_or after j d).place ≡ (slice_index_or works j d).place) × ((slice_index_or after j d).net ≡ (slice_index_or works j d).net) × IfSome (slice_index_or after j d).part (IsNetPart board (slice_index_or works j d).net)

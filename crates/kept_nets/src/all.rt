@@ -38,7 +38,7 @@ fn all_works(alloc: Global, board: &Board) -> Result<Vec<Work>, AllocError>
     Ok(works)
 }
 
-/// Appends the part that the work found. It fails where the work met a want of memory.
+/// Appends the part that the work found. It fails where the work ran out of memory.
 fn push_found(parts: &mut Vec<NetPart>, work: Work) -> Result<(), AllocError>
     ensures { OnOk result
         ((part : PlainNetPart) × (work.part ≡ Some part)
@@ -66,7 +66,7 @@ fn parts_of(alloc: Global, works: Vec<Work>) -> Result<Vec<NetPart>, AllocError>
 }
 
 /// What is found of each declared net but net 0, in the order of the board. With one worker they are found on the thread of the caller,
-/// with more by as many threads as there are processors. Only want of memory refuses it.
+/// with more by as many threads as there are processors. Only running out of memory refuses it.
 pub fn all_parts(
     rt: &(impl Threads + Sync),
     alloc: Global,

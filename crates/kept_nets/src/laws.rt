@@ -3,7 +3,7 @@
 ghost use Rattle.std.specs.Prelude.{◌≡◌, ℕ, false, List, Contains};
 ghost use Rattle.board_items.specs.declared.item.Item.{Item};
 ghost use Rattle.board_items.specs.Boards.{PlainBoard};
-ghost use Rattle.net_groups.specs.Groups.{is_of_net, items_of};
+ghost use Rattle.net_groups.specs.NetGroups.{is_of_net, items_of};
 ghost use Rattle.net_groups.specs.NetParts.{PlainNetPart, AreParts};
 ghost use Rattle.board_laws.specs.Edits.{IsEdit, WasOrIs};
 

@@ -53,7 +53,7 @@ fn copy_nest(alloc: Global, nest: &Nest) -> Result<Nest, AllocError>
 }
 
 impl NetPart {
-    /// An equal part. Only want of memory refuses it.
+    /// An equal part. Only running out of memory refuses it.
     pub fn copy(&self) -> Result<NetPart, AllocError>
         ensures { IfOk result (λ copy. copy ≡ self.now) }
     {
@@ -74,7 +74,7 @@ impl NetPart {
     }
 }
 
-/// What is found of a net. Only want of memory refuses it.
+/// What is found of a net. Only running out of memory refuses it.
 pub(crate) fn part_of(alloc: Global, board: &Board, net: u32) -> Result<NetPart, AllocError>
     ensures { IfOk result (IsNetPart board.now net) }
 {

@@ -18,7 +18,7 @@ pub(crate) struct Work {
     pub(crate) part: Option<NetPart>,
 }
 
-/// Finds the part of a net. Where memory is wanting there is none.
+/// Finds the part of a net. Where memory runs out there is none.
 fn find_part(alloc: Global, board: &Board, work: &mut Work)
     ensures place { work.new.place ≡ work.old.place }
     ensures net { work.new.net ≡ work.old.net }

@@ -1,1 +1,1 @@
-pub mod Renewed
+pub mod Updated

@@ -3,7 +3,7 @@
 
 mod batch;
 pub mod laws;
-mod renewing;
+mod updating;
 
 pub use batch::TileRows;
-pub use renewing::{renew_rows, rows_anew};
+pub use updating::{update_rows, whole_board_rows};

@@ -3,12 +3,12 @@ use Rattle.std.proofs.Common.{◌⊎◌, ◌↔◌, ℤ, pos, ◌*ℤ◌, ◌≤
 use Rattle.std.proofs.lemmas.Int.{ints}
 use Rattle.std.proofs.lemmas.List.Elements.{All-weaker}
 use Rattle.geo_seg.specs.Distances.{Apart, IsGap}
-use Rattle.board_items.specs.Copper.{SomeMeet, Keeps}
+use Rattle.board_items.specs.CopperPairs.{SomeMeet, Keeps}
 use Rattle.item_copper.proofs.Meeting.{any_here, any_later, any_cases}
 use Rattle.item_copper.proofs.Gaps.{IsFalling, part_falls, gap_both}
 use Rattle.item_copper.proofs.SideLists.{of_any, any_one, gap_of_one}
 use Rattle.kind_subjects.specs.Facing.{Facing}
-use Rattle.kind_subjects.specs.Sides.{SomeFacingMeets, AllFacingsKeep}
+use Rattle.kind_subjects.specs.MeasuredPairs.{SomeFacingMeets, AllFacingsKeep}
 
 abbrev pub DoesMeet : Facing → Type 0
 DoesMeet f = SomeMeet f.own f.others

@@ -7,7 +7,7 @@ use Rattle.board_items.specs.declared.item.Hole.{Hole}
 use Rattle.board_items.specs.declared.item.What.{What}
 use Rattle.board_items.specs.declared.item.What.TheVariants.{Via}
 use Rattle.int_algebra.proofs.Scalars.{passed}
-use Rattle.kind_subjects.specs.Lengths.{IsNearZero, ring_of}
+use Rattle.kind_subjects.specs.LimitedLengths.{IsNearZero, ring_of}
 
 pub passed_within : (n : ℤ) → IsLength n → IsNearZero (passed n)
 passed_within n h =

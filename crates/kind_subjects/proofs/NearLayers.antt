@@ -12,7 +12,7 @@ use Rattle.geo_seg.proofs.Distances.{apart_not_within}
 use Rattle.copper_layers.specs.declared.set.LayerSet.{LayerSet}
 use Rattle.board_items.specs.declared.parts.Part.{Part}
 use Rattle.board_items.specs.declared.item.Item.{Item}
-use Rattle.board_items.specs.Copper.{SomeMeet, Keeps}
+use Rattle.board_items.specs.CopperPairs.{SomeMeet, Keeps}
 use Rattle.cond_lang.specs.declared.kind.Kind.{Kind}
 use Rattle.cond_lang.specs.declared.kind.Kind.TheVariants.{Short, Clearance}
 use Rattle.kind_subjects.specs.declared.subject.Faces.{Faces}
@@ -23,7 +23,7 @@ use Rattle.kind_subjects.specs.declared.layer.RowLayer.{RowLayer}
 use Rattle.kind_subjects.specs.declared.layer.RowLayer.TheVariants.{Copper, FrontYard, BackYard, Nowhere}
 use Rattle.kind_subjects.specs.Subjects.{subject_of}
 use Rattle.kind_subjects.specs.KindLayers.{IsFacedOn, IsSeenOn, IsLayerOf}
-use Rattle.kind_subjects.specs.Layers.{IsTried}
+use Rattle.kind_subjects.specs.TriedLayers.{IsTried}
 use Rattle.kind_subjects.specs.Facing.{Facing, faced, facings_in, facings, may_not_meet, MeetAt, KeepAt, TooNear}
 
 -- ---- layers

@@ -16,7 +16,7 @@ use Rattle.kind_subjects.specs.declared.layer.RowLayer.{RowLayer}
 use Rattle.kind_subjects.specs.declared.layer.RowLayer.TheVariants.{Copper, FrontYard, BackYard, Nowhere}
 use Rattle.kind_subjects.specs.Subjects.{subject_of}
 use Rattle.kind_subjects.specs.KindLayers.{IsMeasuredOn, IsSeenOn, IsLayerOf, IsCopper, IsNowhere}
-use Rattle.kind_subjects.specs.Layers.{rank, IsTried}
+use Rattle.kind_subjects.specs.TriedLayers.{rank, IsTried}
 use Rattle.kind_subjects.specs.SingleLayers.{LiesAt, IsAskedAt, IsOnCopper, IsMeasuredBy, IsMeasuredIn, IsMeasuredAt}
 
 nowhere : (layer : RowLayer) → layer ≡ Nowhere → IsNowhere layer

@@ -3,7 +3,7 @@ use Rattle.std.proofs.Common.{◌≡◌, ◌⊎◌, inl, inr, refl, sym, ap, sub
 use Rattle.copper_layers.specs.declared.set.LayerSet.{LayerSet}
 use Rattle.kind_subjects.specs.declared.layer.RowLayer.{RowLayer}
 use Rattle.kind_subjects.specs.declared.layer.RowLayer.TheVariants.{Copper, FrontYard, BackYard, Nowhere}
-use Rattle.kind_subjects.specs.Layers.{rank, IsTried, IsFirst, HoldsNowhere}
+use Rattle.kind_subjects.specs.TriedLayers.{rank, IsTried, IsFirst, HoldsNowhere}
 
 -- each layer of the board has a place of its own
 pub same_place : (copper : LayerSet) (x y : RowLayer) → IsTried copper x → IsTried copper y → rank x ≡ rank y → x ≡ y

@@ -15,8 +15,8 @@ use Rattle.board_items.specs.declared.parts.Part.{Part}
 use Rattle.board_items.specs.declared.item.Hole.{Hole}
 use Rattle.board_items.specs.declared.item.Item.{Item}
 use Rattle.copper_layers.specs.Layers.{has_layer}
-use Rattle.board_items.specs.Parts.{hole_parts}
-use Rattle.board_items.specs.Copper.{on_layer, SomeMeet, Keeps}
+use Rattle.board_items.specs.ItemParts.{hole_parts}
+use Rattle.board_items.specs.CopperPairs.{on_layer, SomeMeet, Keeps}
 use Rattle.cond_lang.specs.declared.kind.Kind.{Kind}
 use Rattle.rule_pick.specs.FactsOf.{SomeOn}
 use Rattle.item_copper.proofs.Meeting.{any_here, any_later, any_none, any_cases}
@@ -27,9 +27,9 @@ use Rattle.kind_subjects.specs.declared.layer.RowLayer.{RowLayer}
 use Rattle.kind_subjects.specs.declared.layer.RowLayer.TheVariants.{Copper, Nowhere}
 use Rattle.kind_subjects.specs.Subjects.{subject_of}
 use Rattle.kind_subjects.specs.KindLayers.{IsFacedOn}
-use Rattle.kind_subjects.specs.Layers.{rank, IsTried}
+use Rattle.kind_subjects.specs.TriedLayers.{rank, IsTried}
 use Rattle.kind_subjects.specs.Facing.{Facing, facing, faced, facings_in, facings, copper_on, hole_on, lines_of, MeetAt, TooNear}
-use Rattle.kind_subjects.specs.Sides.{IsUnfaced, AreFacedWithin, FaceWithin}
+use Rattle.kind_subjects.specs.MeasuredPairs.{IsUnfaced, AreFacedWithin, FaceWithin}
 use Rattle.kind_subjects.proofs.NearLayers.{faces_on, not_near}
 
 pub unlike : (b : Bool) → b ≡ false → b ≡ true → ⊥

@@ -6,8 +6,8 @@ use Rattle.board_items.specs.declared.item.Hole.{Hole}
 use Rattle.board_items.specs.declared.item.What.{What}
 use Rattle.board_items.specs.declared.item.What.TheVariants.{Edge, Area, Body}
 use Rattle.board_items.specs.declared.item.Item.{Item}
-use Rattle.board_items.specs.Copper.{on_layer, SomeMeet, Keeps}
-use Rattle.board_items.specs.Parts.{hole_parts}
+use Rattle.board_items.specs.CopperPairs.{on_layer, SomeMeet, Keeps}
+use Rattle.board_items.specs.ItemParts.{hole_parts}
 use Rattle.cond_lang.specs.declared.kind.Kind.{Kind}
 use Rattle.rule_pick.specs.FactsOf.{parts_asked}
 use Rattle.kind_subjects.specs.declared.subject.Faces.{Faces}

@@ -1,8 +1,8 @@
 pub mod Subjects
-pub mod Layers
+pub mod TriedLayers
 pub mod KindLayers
 pub mod Compared
 pub mod Facing
-pub mod Sides
+pub mod MeasuredPairs
 pub mod SingleLayers
-pub mod Lengths
+pub mod LimitedLengths

@@ -3,13 +3,13 @@
 ghost use Rattle.std.specs.Prelude.{◌≡◌, ◌⊎◌, ◌<◌, ◌≤◌, ℕ, IsTrue, false, []};
 ghost use Rattle.copper_layers.specs.declared.set.LayerSet.{LayerSet};
 ghost use Rattle.copper_layers.specs.Layers.{has_layer};
-ghost use Rattle.board_items.specs.Parts.{hole_parts};
+ghost use Rattle.board_items.specs.ItemParts.{hole_parts};
 ghost use Rattle.rule_pick.specs.FactsOf.{SomeOn};
 ghost use Rattle.kind_subjects.specs.declared.subject.Faces.TheVariants.{EdgesAndCopper};
 ghost use Rattle.kind_subjects.specs.declared.layer.RowLayer.{RowLayer};
-ghost use Rattle.kind_subjects.specs.Layers.{IsTried};
+ghost use Rattle.kind_subjects.specs.TriedLayers.{IsTried};
 ghost use Rattle.kind_subjects.specs.Facing.{facing, copper_on, hole_on, lines_of, faced};
-ghost use Rattle.kind_subjects.specs.Sides.{IsUnfaced, AreFacedWithin, FaceWithin};
+ghost use Rattle.kind_subjects.specs.MeasuredPairs.{IsUnfaced, AreFacedWithin, FaceWithin};
 
 use crate::places::{Places, places_of_faces};
 use crate::subject::{Faces, Subject, subject_of};

@@ -1,7 +1,7 @@
 //! The layers of rows.
 
 ghost use Rattle.std.specs.Prelude.{◌≡◌};
-ghost use Rattle.kind_subjects.specs.Layers.{asked_layer};
+ghost use Rattle.kind_subjects.specs.TriedLayers.{asked_layer};
 
 /// The layer of a row.
 #[derive(Clone, Copy, Debug, Drop, PartialEq, Eq)]

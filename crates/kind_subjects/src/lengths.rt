@@ -3,7 +3,7 @@
 ghost use Rattle.std.specs.Prelude.{◌≡◌, ℤ, pos, ◌*ℤ◌, ◌≤ℤ◌, IfSome, if◌then◌else◌};
 ghost use Rattle.std.specs.Option.{option_map};
 ghost use Rattle.plain_types.specs.Lengths.{IsLength};
-ghost use Rattle.kind_subjects.specs.Lengths.{IsNearZero, ring_of, track_width, via_size, length_by, length_of, times, IsQuotient};
+ghost use Rattle.kind_subjects.specs.LimitedLengths.{IsNearZero, ring_of, track_width, via_size, length_by, length_of, times, IsQuotient};
 
 use crate::subject::{Measure, Subject, subject_of};
 use board_items::{Item, Nm, What};

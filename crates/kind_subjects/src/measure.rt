@@ -3,13 +3,13 @@
 ghost use Rattle.std.specs.Prelude.{◌≡◌, ◌<◌, ◌⊎◌, ℤ, ◌↔◌, IsTrue, false, [], ◌∷◌};
 ghost use Rattle.plain_types.specs.Lengths.{IsLength};
 ghost use Rattle.geo_seg.specs.Distances.{IsGap};
-ghost use Rattle.board_items.specs.Copper.{on_layer};
-ghost use Rattle.board_items.specs.Parts.{hole_parts};
+ghost use Rattle.board_items.specs.CopperPairs.{on_layer};
+ghost use Rattle.board_items.specs.ItemParts.{hole_parts};
 ghost use Rattle.rule_pick.specs.FactsOf.{parts_asked};
-ghost use Rattle.item_copper.specs.Sides.{parts_at};
+ghost use Rattle.item_copper.specs.MeasuredSides.{parts_at};
 ghost use Rattle.kind_subjects.specs.declared.layer.RowLayer.TheVariants.{Copper, FrontYard, BackYard, Nowhere};
 ghost use Rattle.kind_subjects.specs.Facing.{copper_on, hole_on, hole_alone, lines_of, front_of, back_of, area_on, yard_on, placed_on, both_ways, copper_facing, holes_facing, faced, facings, MeetAt, KeepAt};
-ghost use Rattle.kind_subjects.specs.Sides.{IsInStack, facings_of, SomeFacingMeets, AllFacingsKeep};
+ghost use Rattle.kind_subjects.specs.MeasuredPairs.{IsInStack, facings_of, SomeFacingMeets, AllFacingsKeep};
 
 use crate::layer::RowLayer;
 use crate::subject::{Faces, Subject, subject_of};

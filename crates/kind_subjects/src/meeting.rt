@@ -1,9 +1,9 @@
 //! On which layers two items meet.
 
 ghost use Rattle.std.specs.Prelude.{◌↔◌, IsTrue, MatchOption};
-ghost use Rattle.kind_subjects.specs.Layers.{IsFirst, HoldsNowhere};
+ghost use Rattle.kind_subjects.specs.TriedLayers.{IsFirst, HoldsNowhere};
 ghost use Rattle.kind_subjects.specs.Facing.{MeetAt};
-ghost use Rattle.kind_subjects.specs.Sides.{IsInStack};
+ghost use Rattle.kind_subjects.specs.MeasuredPairs.{IsInStack};
 
 use crate::faces::places_between;
 use crate::layer::RowLayer;

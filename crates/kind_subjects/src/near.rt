@@ -4,7 +4,7 @@ ghost use Rattle.std.specs.Prelude.{◌≡◌, ◌<ℤ◌, pos, true, IsTrue, �
 ghost use Rattle.plain_types.specs.Lengths.{IsLength};
 ghost use Rattle.geo_seg.specs.Distances.{IsGap};
 ghost use Rattle.kind_subjects.specs.Facing.{facings, apart_by, may_not_meet, KeepAt, MeetAt, TooNear};
-ghost use Rattle.kind_subjects.specs.Sides.{facings_of};
+ghost use Rattle.kind_subjects.specs.MeasuredPairs.{facings_of};
 
 use crate::layer::RowLayer;
 use crate::measure::{Facings, gap_at, meet_at};

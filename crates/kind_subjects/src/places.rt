@@ -3,7 +3,7 @@
 ghost use Rattle.std.specs.Prelude.{◌≡◌, ◌⊎◌, ◌≤◌, ◌<◌, MatchOption};
 ghost use Rattle.kind_subjects.specs.declared.layer.RowLayer.{RowLayer};
 ghost use Rattle.kind_subjects.specs.KindLayers.{IsCopper, IsNowhere, IsFacedOn};
-ghost use Rattle.kind_subjects.specs.Layers.{rank, IsTried};
+ghost use Rattle.kind_subjects.specs.TriedLayers.{rank, IsTried};
 
 use crate::layer::RowLayer;
 use crate::subject::Faces;

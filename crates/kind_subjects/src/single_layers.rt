@@ -4,7 +4,7 @@ ghost use Rattle.std.specs.Prelude.{◌≡◌, ◌↔◌, ◌<◌, ◌≤◌, Is
 ghost use Rattle.board_items.specs.declared.item.Item.{Item};
 ghost use Rattle.rule_pick.specs.FactsOf.{SomeOn};
 ghost use Rattle.kind_subjects.specs.declared.layer.RowLayer.{RowLayer};
-ghost use Rattle.kind_subjects.specs.Layers.{rank, IsTried};
+ghost use Rattle.kind_subjects.specs.TriedLayers.{rank, IsTried};
 ghost use Rattle.kind_subjects.specs.SingleLayers.{LiesAt, IsAskedAt, IsOnCopper, IsMeasuredAt};
 
 use crate::faces::{layers_of, places_in};

@@ -8,9 +8,9 @@ use Rattle.sexpr_read.specs.declared.bytes.ByteClass.TheVariants.{Space, Open, C
 use Rattle.sexpr_read.specs.declared.place.TextError.{TextError}
 use Rattle.sexpr_read.specs.declared.place.TextError.TheVariants.{TooDeep}
 use Rattle.sexpr_read.specs.Comments.{shown}
-use Rattle.sexpr_read.specs.Refusals.{Where, outside, in_string, after_backslash, where_at, is_blank_before, outer_fault, inner_fault, fault_in, fault_at, end_fault_in, end_fault, or_else, first_fault, refusal_of_all}
+use Rattle.sexpr_read.specs.TreeRefusals.{Where, outside, in_string, after_backslash, where_at, is_blank_before, outer_fault, inner_fault, fault_in, fault_at, end_fault_in, end_fault, or_else, first_fault, refusal_of_all}
 use Rattle.plain_types.specs.Limits.{IsInText, IsReadable}
-use Rattle.list_read.specs.Near.{IsNearText}
+use Rattle.list_read.specs.RefusalPlaces.{IsNearText}
 
 abbrev pub NearIfSome : Option TextError → Type 0
 NearIfSome None = Unit {0}

@@ -6,11 +6,11 @@ use Rattle.std.proofs.lemmas.Slice.Eq.{bytes_eq-Decides}
 use Rattle.std.proofs.lemmas.List.{map-set, length-map, get_or_default}
 use Rattle.sexpr_read.specs.declared.view.Node.{Node}
 use Rattle.sexpr_read.specs.Tree.{Tree, value}
-use Rattle.sexpr_read.specs.Views.{tree_of}
+use Rattle.sexpr_read.specs.TreeViews.{tree_of}
 use Rattle.list_read.specs.declared.elements.Wanted.{Wanted}
 use Rattle.list_read.specs.declared.elements.Wanted.TheVariants.{Head, Name}
-use Rattle.list_read.specs.Heads.{is_text, is_value}
-use Rattle.list_read.specs.Walk.{is_wanted_first, is_new, noted_one, noted, heads_of, share, are_distinct}
+use Rattle.list_read.specs.ListHeads.{is_text, is_value}
+use Rattle.list_read.specs.ListWalk.{is_wanted_first, is_new, noted_one, noted, heads_of, share, are_distinct}
 use Rattle.list_read.proofs.Walks.{mapped_at}
 
 -- ---- two that want the same atom share a head

@@ -3,13 +3,13 @@ use Rattle.std.proofs.Common.{◌≡◌, ◌∙◌, refl, sym, ap, subst, ℕ, z
 use Rattle.std.proofs.lemmas.List.{set-get_or, map-set, length-map, get_or_default}
 use Rattle.sexpr_read.specs.declared.view.Node.{Node}
 use Rattle.sexpr_read.specs.Tree.{Tree, parts}
-use Rattle.sexpr_read.specs.Views.{tree_of}
+use Rattle.sexpr_read.specs.TreeViews.{tree_of}
 use Rattle.list_read.specs.declared.elements.Wanted.{Wanted}
 use Rattle.list_read.specs.declared.elements.Wanted.TheVariants.{Head, Name}
-use Rattle.list_read.specs.Heads.{has_head}
-use Rattle.list_read.specs.Elements.{is_naming, element, naming}
+use Rattle.list_read.specs.ListHeads.{has_head}
+use Rattle.list_read.specs.NamedElements.{is_naming, element, naming}
 use Rattle.list_read.specs.Wanted.{found_in}
-use Rattle.list_read.specs.Walk.{is_wanted_first, is_new, noted_one, noted}
+use Rattle.list_read.specs.ListWalk.{is_wanted_first, is_new, noted_one, noted}
 
 -- ---- one part, noted for those below k
 

@@ -3,7 +3,7 @@ use Rattle.std.proofs.Common.{◌≡◌, ℕ, zero, suc, ◌+◌, refl, List, []
 use Rattle.std.proofs.lemmas.Slice.Eq.{bytes_eq-Decides}
 use Rattle.std.specs.List.{position_from}
 use Rattle.sexpr_read.specs.Tree.{Tree, value}
-use Rattle.list_read.specs.Heads.{is_text, is_value}
+use Rattle.list_read.specs.ListHeads.{is_text, is_value}
 
 same_truth : (a b : Bool) → (IsTrue a → IsTrue b) → (IsTrue b → IsTrue a) → a ≡ b
 same_truth true true f g = refl

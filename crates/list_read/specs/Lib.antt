@@ -1,8 +1,8 @@
-pub mod Answers
-pub mod Heads
-pub mod Elements
-pub mod Nodes
+pub mod FirstRefusals
+pub mod ListHeads
+pub mod NamedElements
+pub mod FoundNodes
 pub mod Wanted
-pub mod Walk
-pub mod Texts
-pub mod Near
+pub mod ListWalk
+pub mod TextResults
+pub mod RefusalPlaces

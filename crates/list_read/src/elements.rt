@@ -2,16 +2,16 @@
 
 ghost use Rattle.std.specs.Prelude.{◌≡◌, ◌<◌, ◌↔◌, true, length, EachIndex, slice_index_or, None, Some, map, option_map, IsTrue};
 ghost use Rattle.sexpr_read.specs.Tree.{value};
-ghost use Rattle.sexpr_read.specs.Views.{tree_of};
-ghost use Rattle.list_read.specs.Elements.{element, is_naming, naming};
+ghost use Rattle.sexpr_read.specs.TreeViews.{tree_of};
+ghost use Rattle.list_read.specs.NamedElements.{element, is_naming, naming};
 ghost use Rattle.list_read.specs.Wanted.{found_in};
-ghost use Rattle.list_read.specs.Walk.{is_wanted_first, is_new, are_distinct, noted};
+ghost use Rattle.list_read.specs.ListWalk.{is_wanted_first, is_new, are_distinct, noted};
 
 use crate::heads::has_head;
 use sexpr_read::Node;
 
 /// The first list in the list that has this head.
-#[tactic(auto, unfolding(crate::specs::Elements::element))]
+#[tactic(auto, unfolding(crate::specs::NamedElements::element))]
 pub fn element<'d, 't>(node: Node<'d, 't>, head: &[u8]) -> Option<Node<'d, 't>>
     ensures { option_map tree_of result ≡ element head.now (tree_of node.entry) }
 {
@@ -24,7 +24,7 @@ pub fn element<'d, 't>(node: Node<'d, 't>, head: &[u8]) -> Option<Node<'d, 't>>
 }
 
 /// Whether the list gives an item its name.
-#[tactic(auto, unfolding(crate::specs::Elements::is_naming))]
+#[tactic(auto, unfolding(crate::specs::NamedElements::is_naming))]
 fn is_naming(node: Node<'_, '_>) -> bool
     ensures { result ≡ is_naming (tree_of node.entry) }
 {
@@ -32,7 +32,7 @@ fn is_naming(node: Node<'_, '_>) -> bool
 }
 
 /// The first list in the list that gives its item a name.
-#[tactic(auto, unfolding(crate::specs::Elements::naming))]
+#[tactic(auto, unfolding(crate::specs::NamedElements::naming))]
 pub fn naming<'d, 't>(node: Node<'d, 't>) -> Option<Node<'d, 't>>
     ensures { option_map tree_of result ≡ naming (tree_of node.entry) }
 {

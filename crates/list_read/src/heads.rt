@@ -1,8 +1,8 @@
 //! Lists by their heads, and what stands in them.
 
 ghost use Rattle.std.specs.Prelude.{◌≡◌};
-ghost use Rattle.sexpr_read.specs.Views.{tree_of, trees_left};
-ghost use Rattle.list_read.specs.Heads.{place, has_head, has_word_head, behind_head, has_word};
+ghost use Rattle.sexpr_read.specs.TreeViews.{tree_of, trees_left};
+ghost use Rattle.list_read.specs.ListHeads.{place, has_head, has_word_head, behind_head, has_word};
 
 use sexpr_read::{Children, Node};
 
@@ -16,7 +16,7 @@ pub fn place(node: Node<'_, '_>) -> u32
 
 /// Whether it is a list whose first part stands for this text.
 #[inline]
-#[tactic(auto, unfolding(crate::specs::Heads::has_head))]
+#[tactic(auto, unfolding(crate::specs::ListHeads::has_head))]
 pub fn has_head(node: Node<'_, '_>, head: &[u8]) -> bool
     ensures { result ≡ has_head head.now (tree_of node.entry) }
 {
@@ -29,7 +29,7 @@ pub fn has_head(node: Node<'_, '_>, head: &[u8]) -> bool
 
 /// Whether it is a list whose first part stands for this text and does not stand in quotes.
 #[inline]
-#[tactic(auto, unfolding(crate::specs::Heads::has_word_head))]
+#[tactic(auto, unfolding(crate::specs::ListHeads::has_word_head))]
 pub fn has_word_head(node: Node<'_, '_>, head: &[u8]) -> bool
     ensures { result ≡ has_word_head head.now (tree_of node.entry) }
 {
@@ -41,7 +41,7 @@ pub fn has_word_head(node: Node<'_, '_>, head: &[u8]) -> bool
 }
 
 /// What stands behind the head.
-#[tactic(auto, unfolding(crate::specs::Heads::behind_head))]
+#[tactic(auto, unfolding(crate::specs::ListHeads::behind_head))]
 pub fn behind_head<'d, 't>(list: Node<'d, 't>) -> Children<'d, 't>
     ensures { trees_left result ≡ behind_head (tree_of list.entry) }
 {
@@ -52,7 +52,7 @@ pub fn behind_head<'d, 't>(list: Node<'d, 't>) -> Children<'d, 't>
 
 /// Of each of two words whether it stands in the list, found in one walk.
 #[inline(always)]
-#[tactic(auto, unfolding(crate::specs::Heads::has_word))]
+#[tactic(auto, unfolding(crate::specs::ListHeads::has_word))]
 pub fn has_words(list: Node<'_, '_>, first: &[u8], second: &[u8]) -> (bool, bool)
     ensures first { result.0 ≡ has_word first.now (tree_of list.entry) }
     ensures second { result.1 ≡ has_word second.now (tree_of list.entry) }

@@ -1,8 +1,8 @@
 //! What atoms stand for, as names.
 
 ghost use Rattle.std.specs.Prelude.{◌≡◌, IfOk};
-ghost use Rattle.sexpr_read.specs.Views.{tree_of};
-ghost use Rattle.list_read.specs.Heads.{text_of};
+ghost use Rattle.sexpr_read.specs.TreeViews.{tree_of};
+ghost use Rattle.list_read.specs.ListHeads.{text_of};
 
 use drc_io::Name;
 use sexpr_read::Node;

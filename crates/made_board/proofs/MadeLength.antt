@@ -6,8 +6,8 @@ use Rattle.std.specs.Fmt.{signed_decimal}
 use Rattle.std.specs.List.{flat_map, range_with_len}
 use Rattle.std.proofs.lemmas.Fmt.{length-decimal-le, length_signed_le}
 use Rattle.std.proofs.lemmas.Int.{ints}
-use Rattle.exact_dec.specs.Written.{minus_sign, mm_text}
-use Rattle.made_board.specs.MadeBoard.{length_of, end_of, net_of, spot_text, end_text, net_and_stamp, via_line, segment_line, two_lines, net_line, net_lines, item_lines, made_text}
+use Rattle.exact_dec.specs.MillimetreText.{minus_sign, mm_text}
+use Rattle.made_board.specs.MadeBoard.{length_of, end_of, net_of, site_text, end_text, net_and_stamp, via_line, segment_line, two_lines, net_line, net_lines, item_lines, made_text}
 
 both : (a b : List ℕ) (m n : ℕ) → length a ≤ m → length b ≤ n → length (a ++ b) ≤ m + n
 both a b m n p q = omega (arith, length-append a b)
@@ -41,9 +41,9 @@ unfolding mm_text
 mm_short z h =
     both _ _ 1 12 (minus_short z) (both _ _ 5 7 (decimal_short (unsigned_abs z / 1000000) (omega arith)) (omega arith))
 
-spot_short : (k : ℕ) → k < 90000 → length (spot_text k) ≤ 9
-unfolding spot_text
-spot_short k h =
+site_short : (k : ℕ) → k < 90000 → length (site_text k) ≤ 9
+unfolding site_text
+site_short k h =
     both _ _ 5 4 (both _ _ 4 1 (signed_short (3 * (k % 300)) (omega arith)) (omega arith)) (signed_short (3 * (k / 300)) (omega arith))
 
 longer : (is_long : Bool) → cond is_long 2300000 1200000 ≤ 2300000
@@ -66,14 +66,14 @@ net_and_stamp_short letter k one h =
 via_short : (k : ℕ) → k < 90000 → length (via_line k) ≤ 99
 unfolding via_line
 via_short k h =
-    let spot = spot_short k h in
+    let site = site_short k h in
     let behind = net_and_stamp_short (codes "v") k (omega arith) h in
     simp length-append (omega arith)
 
 segment_short : (k : ℕ) → k < 90000 → length (segment_line k) ≤ 113
 unfolding segment_line
 segment_short k h =
-    let spot = spot_short k h in
+    let site = site_short k h in
     let end = end_short k h in
     let behind = net_and_stamp_short (codes "s") k (omega arith) h in
     simp length-append (omega arith)

@@ -2,7 +2,7 @@
 use Rattle.std.proofs.Common.{◌≡◌, ℕ, suc, zero, ◌+◌, List, ◌++◌, refl, add-one, append_assoc, append-nil, arith}
 use Rattle.std.specs.Prelude.{codes}
 use Rattle.std.specs.List.{flat_map, range_with_len}
-use Rattle.made_board.specs.MadeBoard.{spot_text, net_and_stamp, via_line, segment_line, two_lines, net_line, net_lines, item_lines}
+use Rattle.made_board.specs.MadeBoard.{site_text, net_and_stamp, via_line, segment_line, two_lines, net_line, net_lines, item_lines}
 
 grown : (f : ℕ → List ℕ) (a n j : ℕ) → a + n ≡ j → flat_map f (range_with_len a (suc n)) ≡ flat_map f (range_with_len a n) ++ f j
 grown f a zero j e =
@@ -42,6 +42,6 @@ item_lines_in_parts bs a low high n e = rw (in_parts two_lines a low high n e) (
 
 -- the pieces in which a via's line is appended
 pub via_line_pieces : (bs : List ℕ) (k : ℕ)
-    → bs ++ via_line k ≡ ((bs ++ codes "(via (at ") ++ spot_text k ++ codes ") (size 0.8) (drill 0.4) (layers \"F.Cu\" \"B.Cu\")") ++ net_and_stamp (codes "v") k
+    → bs ++ via_line k ≡ ((bs ++ codes "(via (at ") ++ site_text k ++ codes ") (size 0.8) (drill 0.4) (layers \"F.Cu\" \"B.Cu\")") ++ net_and_stamp (codes "v") k
 unfolding via_line
 via_line_pieces bs k = simp append_assoc

@@ -3,7 +3,7 @@
 use Rattle.std.specs.Prelude.{ℕ, ◌+◌, ◌*◌, ◌/◌, ◌%◌, ◌==◌, ℤ, pos, ◌+ℤ◌, ◌*ℤ◌, ◌-ℤ◌, List, ◌++◌, codes, decimal, if◌then◌else◌}
 use Rattle.std.specs.Fmt.{signed_decimal}
 use Rattle.std.specs.List.{flat_map, range_with_len}
-use Rattle.exact_dec.specs.Written.{mm_text}
+use Rattle.exact_dec.specs.MillimetreText.{mm_text}
 
 -- where number k stands, in millimetres
 abbrev pub x_of : ℕ → ℤ
@@ -24,8 +24,8 @@ end_of k = (pos 1000000 *ℤ x_of k) +ℤ pos (length_of k)
 abbrev pub net_of : ℕ → ℕ
 net_of k = 1 + k % 1000
 
-unfoldable pub spot_text : ℕ → List ℕ
-spot_text k = signed_decimal (x_of k) ++ codes " " ++ signed_decimal (y_of k)
+unfoldable pub site_text : ℕ → List ℕ
+site_text k = signed_decimal (x_of k) ++ codes " " ++ signed_decimal (y_of k)
 
 unfoldable pub end_text : ℕ → List ℕ
 end_text k = mm_text (end_of k) ++ codes " " ++ signed_decimal (y_of k)
@@ -35,11 +35,11 @@ unfoldable pub net_and_stamp : List ℕ → ℕ → List ℕ
 net_and_stamp letter k = codes " (net " ++ decimal (net_of k) ++ codes ") (tstamp " ++ letter ++ decimal k ++ codes "))\n"
 
 unfoldable pub via_line : ℕ → List ℕ
-via_line k = codes "(via (at " ++ spot_text k ++ codes ") (size 0.8) (drill 0.4) (layers \"F.Cu\" \"B.Cu\")" ++ net_and_stamp (codes "v") k
+via_line k = codes "(via (at " ++ site_text k ++ codes ") (size 0.8) (drill 0.4) (layers \"F.Cu\" \"B.Cu\")" ++ net_and_stamp (codes "v") k
 
 unfoldable pub segment_line : ℕ → List ℕ
 segment_line k =
-    codes "(segment (start " ++ spot_text k ++ codes ") (end " ++ end_text k ++ codes ") (width 0.25) (layer \"F.Cu\")" ++ net_and_stamp (codes "s") k
+    codes "(segment (start " ++ site_text k ++ codes ") (end " ++ end_text k ++ codes ") (width 0.25) (layer \"F.Cu\")" ++ net_and_stamp (codes "s") k
 
 abbrev pub two_lines : ℕ → List ℕ
 two_lines k = via_line k ++ segment_line k

@@ -2,8 +2,8 @@
 
 ghost use Rattle.std.specs.Prelude.{◌≡◌, ◌<◌, ◌≤◌, ◌++◌, ◌+◌, [], length, unsigned_abs, IfOk, OnOk};
 ghost use Rattle.std.specs.Thread.{IsSync};
-ghost use Rattle.exact_dec.specs.Written.{mm_text};
-ghost use Rattle.made_board.specs.MadeBoard.{x_of, y_of, end_of, spot_text, end_text, net_and_stamp, via_line, segment_line, net_line, net_lines, item_lines, made_text};
+ghost use Rattle.exact_dec.specs.MillimetreText.{mm_text};
+ghost use Rattle.made_board.specs.MadeBoard.{x_of, y_of, end_of, site_text, end_text, net_and_stamp, via_line, segment_line, net_line, net_lines, item_lines, made_text};
 
 use exact_dec::{Nm, write_mm};
 use itoa::{Buffer, Integer};
@@ -95,10 +95,10 @@ fn push_nets(text: &mut Vec<u8>, count: u32) -> Result<(), AllocError>
 }
 
 /// Appends where a number stands.
-#[tactic(auto, unfolding(crate::specs::MadeBoard::spot_text))]
-fn push_spot(text: &mut Vec<u8>, number: u32) -> Result<(), AllocError>
+#[tactic(auto, unfolding(crate::specs::MadeBoard::site_text))]
+fn push_site(text: &mut Vec<u8>, number: u32) -> Result<(), AllocError>
     requires { number < 90_000 }
-    ensures { OnOk result (text.new.items ≡ text.old.items ++ spot_text number) }
+    ensures { OnOk result (text.new.items ≡ text.old.items ++ site_text number) }
 {
     push_integer(text, x_of(number))?;
     push_piece(text, b" ")?;
@@ -146,7 +146,7 @@ fn push_via(text: &mut Vec<u8>, number: u32) -> Result<(), AllocError>
     ensures { OnOk result (text.new.items ≡ text.old.items ++ via_line number) }
 {
     push_piece(text, b"(via (at ")?;
-    push_spot(text, number)?;
+    push_site(text, number)?;
     push_piece(text, b") (size 0.8) (drill 0.4) (layers \"F.Cu\" \"B.Cu\")")?;
     push_net_and_stamp(text, b"v", number)
 }
@@ -158,7 +158,7 @@ fn push_segment(text: &mut Vec<u8>, number: u32) -> Result<(), AllocError>
     ensures { OnOk result (text.new.items ≡ text.old.items ++ segment_line number) }
 {
     push_piece(text, b"(segment (start ")?;
-    push_spot(text, number)?;
+    push_site(text, number)?;
     push_piece(text, b") (end ")?;
     push_end(text, number)?;
     push_piece(text, b") (width 0.25) (layer \"F.Cu\")")?;
@@ -194,7 +194,7 @@ fn room_for(alloc: Global, count: u32) -> Result<Vec<u8>, AllocError>
     Vec::with_capacity(alloc, count as usize * ITEM_BYTES)
 }
 
-/// As `with_items`, the numbers halved so many times, and each half by a thread of its own.
+/// Appends the lists of the items of so many numbers. The numbers are halved so many times, and each half has a thread of its own.
 fn with_halves<R: Threads + Sync>(
     rt: &R,
     alloc: Global,
@@ -212,7 +212,7 @@ fn with_halves<R: Threads + Sync>(
     let low = count / 2;
     let high = count - low;
     let rest = room_for(alloc, high)?;
-    let (front, back) = join(
+    let (prefix, back) = join(
         rt,
         move || -> Result<Vec<u8>, AllocError>
             requires { IsSync R.row × (0 < halvings) × (first + low ≤ 90_000) }
@@ -220,15 +220,16 @@ fn with_halves<R: Threads + Sync>(
         { with_halves(rt, alloc, halvings - 1, text, first, low) },
         move || -> Result<Vec<u8>, AllocError>
             requires { IsSync R.row × (0 < halvings) × (first + low + high ≤ 90_000) }
-            ensures { IfOk result (λ whole. whole.items ≡ rest.items ++ item_lines (first + low) high) }
+            ensures { IfOk result (λ whole.
+                whole.items ≡ rest.items ++ item_lines (first + low) high) }
         { with_halves(rt, alloc, halvings - 1, rest, first + low, high) },
     );
-    let mut whole = front?;
+    let mut whole = prefix?;
     push_piece(&mut whole, &back?)?;
     Ok(whole)
 }
 
-/// As `with_items`: with one worker, or for few numbers, on the thread of the caller, and else by four threads.
+/// Appends the lists of the items of the first numbers: on the thread of the caller with one worker or for few numbers, and else by four threads.
 fn with_items_by<R: Threads + Sync>(
     rt: &R,
     alloc: Global,
@@ -247,7 +248,7 @@ fn with_items_by<R: Threads + Sync>(
 }
 
 /// The text of the generated board of so many vias and segments, from 1 to 90,000, put together by four threads where there are several
-/// workers. Only want of memory refuses it.
+/// workers. Only running out of memory refuses it.
 #[tactic(auto, unfolding(crate::specs::MadeBoard::made_text))]
 pub fn made_text(
     rt: &(impl Threads + Sync),

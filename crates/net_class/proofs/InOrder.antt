@@ -5,10 +5,10 @@ use Rattle.std.specs.List.{cons_option}
 use Rattle.std.proofs.lemmas.Slice.Eq.{bytes_eq-Decides}
 use Rattle.json_exact.specs.Json.{Json}
 use Rattle.net_class.specs.declared.error.ProjectError.{ProjectError}
-use Rattle.net_class.specs.Classes.{PlainPattern}
+use Rattle.net_class.specs.NetClasses.{PlainPattern}
 use Rattle.net_class.specs.ClassesOf.{Written, is_named, class_in, firsts, pattern_in}
-use Rattle.net_class.specs.Members.{◌>>=◌, each_in, entry_of, text_in, length_in}
-use Rattle.net_class.specs.Walk.{with_written, with_class, with_classes, with_texts, with_pattern, with_patterns}
+use Rattle.net_class.specs.ProjectMembers.{◌>>=◌, each_in, entry_of, text_in, length_in}
+use Rattle.net_class.specs.ProjectWalk.{with_written, with_class, with_classes, with_texts, with_pattern, with_patterns}
 use Rattle.net_class.proofs.Named.{find_last}
 
 -- what passes two tests passes the one that stands for both

@@ -3,7 +3,7 @@ use Rattle.std.proofs.Common.{◌≡◌, ◌⊎◌, inl, inr, ℕ, zero, suc, �
 use Rattle.std.proofs.lemmas.Bool.{eqb-true, ne_eqb, cases_eq}
 use Rattle.std.specs.Prelude.{◌==◌}
 use Rattle.net_class.specs.Wild.{Sign, any, one, letter, sign_of, continues, next_character, is_same, stands, matches}
-use Rattle.net_class.specs.Runs.{behind, Rests, and_then, run_of, rests_match}
+use Rattle.net_class.specs.PatternRuns.{behind, Rests, and_then, run_of, rests_match}
 
 -- ---- up to the next `*`
 

@@ -5,8 +5,8 @@ use Rattle.std.specs.declared.alloc.Global.{Global}
 use Rattle.std.specs.HashSet.{HashSet, contains_text}
 use Rattle.std.proofs.lemmas.Slice.Eq.{bytes_eq-Decides}
 use Rattle.net_class.specs.ClassesOf.{Written, is_named}
-use Rattle.net_class.specs.Walk.{with_written}
-use Rattle.net_class.specs.Views.{HasNames}
+use Rattle.net_class.specs.ProjectWalk.{with_written}
+use Rattle.net_class.specs.ClassValues.{HasNames}
 
 pub find_last : (p : Written → Bool) (ws : List Written) (w : Written) → is_some (find p (ws ++ w ∷ [])) ≡ cond (p w) true (is_some (find p ws))
 find_last p [] w = by (p w)

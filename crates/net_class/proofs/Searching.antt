@@ -2,11 +2,11 @@
 use Rattle.std.proofs.Common.{◌≡◌, ◌⊎◌, inl, inr, ℕ, suc, ◌<◌, refl, sym, ◌∙◌, ap, subst, List, [], ◌∷◌, ◌++◌, length, drop, get_or, Bool, true, false, ◌||◌, IsTrue, ◌↔◌, Option, Some, None, arith}
 use Rattle.std.proofs.lemmas.Bool.{or_cases, ne_eqb, and_parts, and_from}
 use Rattle.std.specs.Prelude.{◌==◌}
-use Rattle.net_class.specs.Wild.{Sign, any, one, letter, sign_of, next_character, is_same, Stands, Matches, stands, matches}
-use Rattle.net_class.specs.Runs.{Rests, run_of, rests_match, matches_an_end}
+use Rattle.net_class.specs.Wild.{Sign, any, one, letter, sign_of, next_character, is_same, MatchesSign, Matches, stands, matches}
+use Rattle.net_class.specs.PatternRuns.{Rests, run_of, rests_match, matches_an_end}
 use Rattle.net_class.proofs.Matching.{IsEnd, end_same, end_is, end_end, later, run_matches}
 
--- ---- a `*` stands for a front, so that its pattern matches an end
+-- ---- a `*` stands for a prefix, so that its pattern matches an end
 
 pub any_end : (fold : Bool) (test : List ℕ → Bool) (t : List ℕ) → stands fold any test t ≡ true → (s : List ℕ) × IsEnd s t × (test s ≡ true)
 any_end fold test [] h = ([], refl, h)
@@ -98,20 +98,20 @@ none_left fold p (b ∷ t) h k = absurd (omega arith)
 
 -- ---- the relation
 
-end_front : (s t : List ℕ) → IsEnd s t → (front : List ℕ) × (t ≡ front ++ s)
-end_front s [] e = ([], sym e)
-end_front s (b ∷ t) (inl e) = ([], sym e)
-end_front s (b ∷ t) (inr h) = let more = end_front s t h in (b ∷ more.0, ap (λ (u : List ℕ). b ∷ u) more.1)
+end_prefix : (s t : List ℕ) → IsEnd s t → (prefix : List ℕ) × (t ≡ prefix ++ s)
+end_prefix s [] e = ([], sym e)
+end_prefix s (b ∷ t) (inl e) = ([], sym e)
+end_prefix s (b ∷ t) (inr h) = let more = end_prefix s t h in (b ∷ more.0, ap (λ (u : List ℕ). b ∷ u) more.1)
 
-front_end : (front s t : List ℕ) → t ≡ front ++ s → IsEnd s t
-front_end [] s t e = end_is s t (sym e)
-front_end (b ∷ front) s [] e = absurd cc
-front_end (b ∷ front) s (c ∷ t) e = let tails : t ≡ front ++ s = cc in inr (front_end front s t tails)
+prefix_end : (prefix s t : List ℕ) → t ≡ prefix ++ s → IsEnd s t
+prefix_end [] s t e = end_is s t (sym e)
+prefix_end (b ∷ prefix) s [] e = absurd cc
+prefix_end (b ∷ prefix) s (c ∷ t) e = let tails : t ≡ prefix ++ s = cc in inr (prefix_end prefix s t tails)
 
-stands_means : (fold : Bool) (sign : Sign) (test : List ℕ → Bool) (P : List ℕ → Type 0) (t : List ℕ) → ((s : List ℕ) → (test s ≡ true) ↔ P s) → (stands fold sign test t ≡ true) ↔ Stands fold sign P t
+stands_means : (fold : Bool) (sign : Sign) (test : List ℕ → Bool) (P : List ℕ → Type 0) (t : List ℕ) → ((s : List ℕ) → (test s ≡ true) ↔ P s) → (stands fold sign test t ≡ true) ↔ MatchesSign fold sign P t
 stands_means fold any test P t h = (
-  λ k. let found = any_end fold test t k in let front = end_front found.0 t found.1 in (front.0, found.0, front.1, (h found.0).0 found.2),
-  λ k. end_any fold test k.1 t (front_end k.0 k.1 t k.2) ((h k.1).1 k.3),
+  λ k. let found = any_end fold test t k in let prefix = end_prefix found.0 t found.1 in (prefix.0, found.0, prefix.1, (h found.0).0 found.2),
+  λ k. end_any fold test k.1 t (prefix_end k.0 k.1 t k.2) ((h k.1).1 k.3),
 )
 stands_means fold one test P [] h = (λ k. absurd cc, λ k. absurd k)
 stands_means fold one test P (b ∷ t) h = h (next_character t)

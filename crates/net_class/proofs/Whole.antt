@@ -3,16 +3,16 @@ use Rattle.std.proofs.Common.{◌≡◌, ◌⊎◌, inl, inr, ℕ, refl, sym, �
 use Rattle.std.specs.Prelude.{MatchResult}
 use Rattle.json_exact.specs.Json.{Json as Json'}
 use Rattle.json_exact.specs.JsonText.{SpelledWithin}
-use Rattle.json_exact.specs.Refusals.{IsRefused, depth_limit}
+use Rattle.json_exact.specs.JsonRefusals.{IsRefused, depth_limit}
 use Rattle.json_exact.specs.declared.error.JsonError.{JsonError}
 use Rattle.json_exact.specs.declared.error.JsonError.TheVariants.{Bad, TooDeep, OutOfMemory as NoMemoryForText}
 use Rattle.net_class.specs.declared.error.ProjectError.{ProjectError}
 use Rattle.net_class.specs.declared.error.ProjectError.TheVariants.{Json, OutOfMemory}
 use Rattle.net_class.specs.ProjectText.{ProjectSays, refusal_of}
-use Rattle.net_class.specs.Classes.{PlainClass, PlainPattern, PlainMins, PlainClasses, plain_mins, plain_default}
-use Rattle.net_class.specs.Members.{object_in, length_in}
+use Rattle.net_class.specs.NetClasses.{PlainClass, PlainPattern, PlainMins, PlainClasses, plain_mins, plain_default}
+use Rattle.net_class.specs.ProjectMembers.{object_in, length_in}
 use Rattle.net_class.specs.ClassesOf.{Written, or_plain, sizes_in, written_in, patterns_in, rules_in, default_clearance, class_from, classes_from, with_rest, classes_of}
-use Rattle.net_class.specs.Views.{Gives}
+use Rattle.net_class.specs.ClassValues.{Gives}
 
 pub sizes_are : (rules : Option Json') (drill track ring via : ℤ)
     → Ok drill ≡ or_plain (length_in (codes "min_through_hole_diameter") rules) plain_mins.min_through_hole_diameter

@@ -7,8 +7,8 @@
 use Rattle.std.specs.Prelude.{ℕ, ℤ, List, [], ◌∷◌, map, filter, find, codes, bytes_eq, Bool, not, Option, None, Some, unwrap_or, option_map, option_and_then, Result, Ok}
 use Rattle.json_exact.specs.Json.{Json}
 use Rattle.net_class.specs.declared.error.ProjectError.{ProjectError}
-use Rattle.net_class.specs.Classes.{PlainClass, PlainPattern, PlainMins, PlainClasses, plain_default, plain_mins}
-use Rattle.net_class.specs.Members.{◌>>=◌, object_in, list_in, entries, each_in, entry_of, text_in, length_in, length_or_none_in}
+use Rattle.net_class.specs.NetClasses.{PlainClass, PlainPattern, PlainMins, PlainClasses, plain_default, plain_mins}
+use Rattle.net_class.specs.ProjectMembers.{◌>>=◌, object_in, list_in, entries, each_in, entry_of, text_in, length_in, length_or_none_in}
 
 -- a class as it is written
 pub record Written : Type 0 where

@@ -1,9 +1,9 @@
 pub mod Wild
-pub mod Runs
-pub mod Classes
-pub mod Members
+pub mod PatternRuns
+pub mod NetClasses
+pub mod ProjectMembers
 pub mod ClassesOf
-pub mod Walk
+pub mod ProjectWalk
 pub mod ProjectText
-pub mod Reasons
-pub mod Views
+pub mod ProjectReasons
+pub mod ClassValues

@@ -2,12 +2,12 @@
 use Rattle.std.specs.Prelude.{◌≡◌, ◌≢◌, ◌⊎◌, ℕ, List, Result, Err}
 use Rattle.json_exact.specs.Json.{Json as Value}
 use Rattle.json_exact.specs.JsonText.{SpelledWithin}
-use Rattle.json_exact.specs.Refusals.{IsRefused, depth_limit}
+use Rattle.json_exact.specs.JsonRefusals.{IsRefused, depth_limit}
 use Rattle.json_exact.specs.declared.error.JsonError.{JsonError}
 use Rattle.json_exact.specs.declared.error.JsonError.TheVariants.{OutOfMemory as NoMemoryForText}
 use Rattle.net_class.specs.declared.error.ProjectError.{ProjectError}
 use Rattle.net_class.specs.declared.error.ProjectError.TheVariants.{Json, OutOfMemory}
-use Rattle.net_class.specs.Classes.{PlainClasses}
+use Rattle.net_class.specs.NetClasses.{PlainClasses}
 use Rattle.net_class.specs.ClassesOf.{classes_of}
 
 -- a text that spells a value says what the value says

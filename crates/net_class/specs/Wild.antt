@@ -28,18 +28,18 @@ is_same fold a b = if fold then eq_ignore_ascii_case a b else (a == b)
 
 -- ---- as a relation
 
--- the sign stands for a front of the text, and P holds of what is left
-abbrev pub Stands : Bool → Sign → (List ℕ → Type 0) → List ℕ → Type 0
-Stands fold any P text = (front rest : List ℕ) × (text ≡ front ++ rest) × P rest
-Stands fold one P [] = ⊥
-Stands fold one P (b ∷ text) = P (next_character text)
-Stands fold (letter a) P [] = ⊥
-Stands fold (letter a) P (b ∷ text) = IsTrue (is_same fold a b) × P text
+-- the sign stands for a prefix of the text, and P holds of what is left
+abbrev pub MatchesSign : Bool → Sign → (List ℕ → Type 0) → List ℕ → Type 0
+MatchesSign fold any P text = (prefix rest : List ℕ) × (text ≡ prefix ++ rest) × P rest
+MatchesSign fold one P [] = ⊥
+MatchesSign fold one P (b ∷ text) = P (next_character text)
+MatchesSign fold (letter a) P [] = ⊥
+MatchesSign fold (letter a) P (b ∷ text) = IsTrue (is_same fold a b) × P text
 
 -- the pattern stands for the whole text
 abbrev pub Matches : Bool → List ℕ → List ℕ → Type 0
 Matches fold [] text = text ≡ []
-Matches fold (c ∷ pattern) text = Stands fold (sign_of c) (Matches fold pattern) text
+Matches fold (c ∷ pattern) text = MatchesSign fold (sign_of c) (Matches fold pattern) text
 
 -- ---- as a test, for definitions that compute
 

@@ -4,9 +4,9 @@ ghost use Rattle.std.specs.Prelude.{◌≡◌, map, IfOk};
 ghost use Rattle.std.specs.Option.{option_map};
 ghost use Rattle.plain_types.specs.Lengths.{IsLength};
 ghost use Rattle.json_exact.specs.Handles.{json_of};
-ghost use Rattle.net_class.specs.Classes.{class_named, pattern_of, class_by, class_of, greatest_of, greatest_clearance, plain_classes, plain_default};
+ghost use Rattle.net_class.specs.NetClasses.{class_named, pattern_of, class_by, class_of, greatest_of, greatest_clearance, plain_classes, plain_default};
 ghost use Rattle.net_class.specs.ClassesOf.{classes_of, with_rest};
-ghost use Rattle.net_class.specs.Views.{plain_class, plain_pattern, mins_of, json_if, Gives};
+ghost use Rattle.net_class.specs.ClassValues.{plain_class, plain_pattern, mins_of, json_if, Gives};
 
 use crate::drafts::Drafts;
 use crate::error::ProjectError;
@@ -32,8 +32,8 @@ pub struct Classes {
 
 impl Model for Classes {
     ghost use Rattle.std.specs.Prelude.{map};
-    ghost use Rattle.net_class.specs.Classes.{PlainClasses};
-    ghost use Rattle.net_class.specs.Views.{plain_class, plain_pattern, mins_of};
+    ghost use Rattle.net_class.specs.NetClasses.{PlainClasses};
+    ghost use Rattle.net_class.specs.ClassValues.{plain_class, plain_pattern, mins_of};
 
     ghost Value = { PlainClasses };
 
@@ -46,7 +46,7 @@ impl Model for Classes {
 }
 
 /// The class of this name, or the other.
-#[tactic(auto, unfolding(crate::specs::Classes::class_named))]
+#[tactic(auto, unfolding(crate::specs::NetClasses::class_named))]
 fn class_named<'c>(default: &'c Class, named: &'c [Class], name: &Name) -> &'c Class
     ensures { plain_class result.now
         ≡ class_named (plain_class default.now) (map plain_class named.now) name.now }
@@ -60,7 +60,7 @@ fn class_named<'c>(default: &'c Class, named: &'c [Class], name: &Name) -> &'c C
 }
 
 /// The first pattern that matches the whole name.
-#[tactic(auto, unfolding(crate::specs::Classes::pattern_of))]
+#[tactic(auto, unfolding(crate::specs::NetClasses::pattern_of))]
 fn pattern_of<'c>(patterns: &'c [Pattern], name: &Name) -> Option<&'c Pattern>
     ensures { option_map (λ p. plain_pattern p.now) result
         ≡ pattern_of (map plain_pattern patterns.now) name.now }
@@ -173,7 +173,7 @@ impl Classes {
 
     /// The class of a net. The first pattern that matches the whole name tells the class; it is Default without such
     /// a pattern, and where the project has no class of the name that the pattern tells. It takes no memory.
-    #[tactic(auto, unfolding(crate::specs::Classes::class_of))]
+    #[tactic(auto, unfolding(crate::specs::NetClasses::class_of))]
     pub fn of_net(&self, name: &Name) -> &Class
         ensures { plain_class result.now ≡ class_of self.now name.now }
     {
@@ -195,7 +195,7 @@ impl Classes {
     }
 
     /// The greatest clearance of all classes, in nanometres, from 0 to 500 mm.
-    #[tactic(auto, unfolding(crate::specs::Classes::greatest_clearance))]
+    #[tactic(auto, unfolding(crate::specs::NetClasses::greatest_clearance))]
     pub fn greatest(&self) -> Nm
         ensures value { result ≡ greatest_clearance self.now }
         ensures in_range { IsLength result }

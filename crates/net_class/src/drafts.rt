@@ -3,10 +3,10 @@
 ghost use Rattle.std.specs.Prelude.{◌≡◌, Some, map, find, IfOk};
 ghost use Rattle.std.specs.Option.{option_map};
 ghost use Rattle.net_class.specs.ClassesOf.{is_named, default_clearance, class_from};
-ghost use Rattle.net_class.specs.Walk.{with_written};
+ghost use Rattle.net_class.specs.ProjectWalk.{with_written};
 ghost use Rattle.plain_types.specs.Lengths.{IsLengthIfSome};
 ghost use Rattle.std.specs.String.{string_bytes};
-ghost use Rattle.net_class.specs.Views.{written_class, plain_class};
+ghost use Rattle.net_class.specs.ClassValues.{written_class, plain_class};
 
 use crate::lengths::{Class, Draft, Nm};
 use drc_io::Name;
@@ -25,7 +25,7 @@ pub(crate) struct Drafts {
 impl Model for Drafts {
     ghost use Rattle.std.specs.Prelude.{List, map};
     ghost use Rattle.net_class.specs.ClassesOf.{Written};
-    ghost use Rattle.net_class.specs.Views.{written_class, HasNames};
+    ghost use Rattle.net_class.specs.ClassValues.{written_class, HasNames};
 
     ghost Value = { List Written };
 
@@ -117,7 +117,7 @@ impl Drafts {
     }
 
     /// Adds a class, if it has a name that none has.
-    #[tactic(auto, unfolding(crate::specs::Walk::with_written))]
+    #[tactic(auto, unfolding(crate::specs::ProjectWalk::with_written))]
     pub(crate) fn with(
         self,
         alloc: Global,

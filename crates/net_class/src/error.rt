@@ -21,13 +21,13 @@ pub enum ProjectError {
 }
 
 impl HasReason for ProjectError {
-    ghost use Rattle.net_class.specs.Reasons.{class_reason};
+    ghost use Rattle.net_class.specs.ProjectReasons.{class_reason};
 
     ghost reason_of = { class_reason };
 
     ghost depth = { 2 };
 
-    /// What it is called, its number and its byte of the text; behind `Json` and 1 those of the text's refusal. Want of
+    /// What it is called, its number and its byte of the text; behind `Json` and 1 those of the text's refusal. Running out of
     /// memory has no number, which is written 0, and no place.
     fn reason(&self) -> Reason {
         match self {
@@ -64,7 +64,7 @@ impl<T: Drop> From<AllocFailed<T>> for ProjectError {
 impl fmt::Display for ProjectError {
     ghost use Rattle.std.specs.Prelude.{Some};
     ghost use Rattle.plain_types.specs.Reasons.{written};
-    ghost use Rattle.net_class.specs.Reasons.{class_reason};
+    ghost use Rattle.net_class.specs.ProjectReasons.{class_reason};
 
     ghost output = { λ e. Some (written (class_reason e)) };
 

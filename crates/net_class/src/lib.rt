@@ -7,7 +7,7 @@
 ghost use Rattle.std.specs.Prelude.{◌≡◌, ◌⊎◌, MatchResult, Result, Ok, Err};
 ghost use Rattle.plain_types.specs.Limits.{IsReadable};
 ghost use Rattle.net_class.specs.declared.error.ProjectError.{ProjectError};
-ghost use Rattle.net_class.specs.Classes.{PlainClasses};
+ghost use Rattle.net_class.specs.NetClasses.{PlainClasses};
 ghost use Rattle.net_class.specs.ProjectText.{ProjectSays, refusal_of};
 
 mod classes;
@@ -29,7 +29,7 @@ use plain_types::crosses_threads;
 use std::alloc::Global;
 
 /// The classes of the text of a project, of at most 33,554,432 bytes, or the first reason why there are none, with its
-/// place. The reasons are those of [`ProjectError`], exactly where `specs/ProjectText` has them; want of memory alone is
+/// place. The reasons are those of [`ProjectError`], exactly where `specs/ProjectText` has them; running out of memory alone is
 /// free.
 pub fn read_project(alloc: Global, text: &[u8]) -> Result<Classes, ProjectError>
     requires { IsReadable text.now }

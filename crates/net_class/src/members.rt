@@ -4,8 +4,8 @@ ghost use Rattle.std.specs.Prelude.{◌≡◌, IfOk};
 ghost use Rattle.json_exact.specs.Json.{begins_at, is_object};
 ghost use Rattle.json_exact.specs.Handles.{json_of};
 ghost use Rattle.plain_types.specs.Lengths.{IsLength, IsLengthIfSome};
-ghost use Rattle.net_class.specs.Members.{unless_null, read_if, of_kind, member_in, object_in, list_in, entry_of, text_in, nanometres_at, length_at, length_in, length_or_none_at, length_or_none_in};
-ghost use Rattle.net_class.specs.Views.{json_if, json_in, Gives};
+ghost use Rattle.net_class.specs.ProjectMembers.{unless_null, read_if, of_kind, member_in, object_in, list_in, entry_of, text_in, nanometres_at, length_at, length_in, length_or_none_at, length_or_none_in};
+ghost use Rattle.net_class.specs.ClassValues.{json_if, json_in, Gives};
 
 use crate::error::ProjectError;
 use crate::lengths::Nm;
@@ -40,7 +40,7 @@ fn unless_null<'j, 't>(v: Option<Value<'j, 't>>) -> Option<Value<'j, 't>>
 }
 
 /// The member of an object, where there is an object, and such a member that is not null.
-#[tactic(auto, unfolding(crate::specs::Members::member_in))]
+#[tactic(auto, unfolding(crate::specs::ProjectMembers::member_in))]
 fn member_in<'j, 't>(object: Option<Value<'j, 't>>, name: &[u8]) -> Option<Value<'j, 't>>
     ensures { json_if result ≡ member_in name.now (json_if object.entry) }
 {
@@ -61,7 +61,7 @@ fn object_if<'j, 't>(v: Option<Value<'j, 't>>) -> Result<Option<Value<'j, 't>>, 
 }
 
 /// The object of a member.
-#[tactic(auto, unfolding(crate::specs::Members::object_in))]
+#[tactic(auto, unfolding(crate::specs::ProjectMembers::object_in))]
 pub(crate) fn object_in<'j, 't>(
     object: Option<Value<'j, 't>>,
     name: &[u8],
@@ -72,7 +72,7 @@ pub(crate) fn object_in<'j, 't>(
 }
 
 /// The list of a member.
-#[tactic(auto, unfolding(crate::specs::Members::list_in))]
+#[tactic(auto, unfolding(crate::specs::ProjectMembers::list_in))]
 pub(crate) fn list_in<'j, 't>(
     object: Option<Value<'j, 't>>,
     name: &[u8],
@@ -92,7 +92,7 @@ pub(crate) fn list_in<'j, 't>(
 }
 
 /// An entry of a list of objects, which may be null.
-#[tactic(auto, unfolding(crate::specs::Members::entry_of))]
+#[tactic(auto, unfolding(crate::specs::ProjectMembers::entry_of))]
 pub(crate) fn entry_of<'j, 't>(v: Value<'j, 't>) -> Result<Option<Value<'j, 't>>, ProjectError>
     ensures { json_in result ≡ entry_of (json_of v.entry) }
 {
@@ -102,7 +102,7 @@ pub(crate) fn entry_of<'j, 't>(v: Value<'j, 't>) -> Result<Option<Value<'j, 't>>
 // ---- texts and lengths
 
 /// The text of a member.
-#[tactic(auto, unfolding(crate::specs::Members::text_in))]
+#[tactic(auto, unfolding(crate::specs::ProjectMembers::text_in))]
 pub(crate) fn text_in(
     alloc: Global,
     object: Option<Value<'_, '_>>,
@@ -122,7 +122,7 @@ pub(crate) fn text_in(
 }
 
 /// A number in millimetres, to the nearest nanometre.
-#[tactic(auto, unfolding(crate::specs::Members::nanometres_at))]
+#[tactic(auto, unfolding(crate::specs::ProjectMembers::nanometres_at))]
 fn nanometres_at(v: Value<'_, '_>) -> Result<Nm, ProjectError>
     ensures { result ≡ nanometres_at (json_of v.entry) }
 {
@@ -136,7 +136,7 @@ fn nanometres_at(v: Value<'_, '_>) -> Result<Nm, ProjectError>
 }
 
 /// A length from 0 to 500 mm.
-#[tactic(auto, unfolding(crate::specs::Members::length_at))]
+#[tactic(auto, unfolding(crate::specs::ProjectMembers::length_at))]
 fn length_at(v: Value<'_, '_>) -> Result<Nm, ProjectError>
     ensures length { result ≡ length_at (json_of v.entry) }
     ensures in_range { IfOk result IsLength }
@@ -150,7 +150,7 @@ fn length_at(v: Value<'_, '_>) -> Result<Nm, ProjectError>
 }
 
 /// The length of a member.
-#[tactic(auto, unfolding(crate::specs::Members::length_in))]
+#[tactic(auto, unfolding(crate::specs::ProjectMembers::length_in))]
 pub(crate) fn length_in(
     object: Option<Value<'_, '_>>,
     name: &[u8],
@@ -168,7 +168,7 @@ pub(crate) fn length_in(
 }
 
 /// A length from 0 to 500 mm, or none for a number below 0.
-#[tactic(auto, unfolding(crate::specs::Members::length_or_none_at))]
+#[tactic(auto, unfolding(crate::specs::ProjectMembers::length_or_none_at))]
 fn length_or_none_at(v: Value<'_, '_>) -> Result<Option<Nm>, ProjectError>
     ensures length { result ≡ length_or_none_at (json_of v.entry) }
     ensures in_range { IfOk result IsLengthIfSome }
@@ -184,7 +184,7 @@ fn length_or_none_at(v: Value<'_, '_>) -> Result<Option<Nm>, ProjectError>
 }
 
 /// The length of a member, or none for a number below 0.
-#[tactic(auto, unfolding(crate::specs::Members::length_or_none_in))]
+#[tactic(auto, unfolding(crate::specs::ProjectMembers::length_or_none_in))]
 pub(crate) fn length_or_none_in(
     object: Option<Value<'_, '_>>,
     name: &[u8],

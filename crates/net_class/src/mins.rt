@@ -1,9 +1,9 @@
 //! The least sizes of a project.
 
 ghost use Rattle.std.specs.Prelude.{◌≡◌};
-ghost use Rattle.net_class.specs.Members.{length_in, length_or_none_in};
+ghost use Rattle.net_class.specs.ProjectMembers.{length_in, length_or_none_in};
 ghost use Rattle.net_class.specs.ClassesOf.{or_plain, distances_in, sizes_in, mins_in, rules_in};
-ghost use Rattle.net_class.specs.Views.{json_if, length_read, distances_read, sizes_read, mins_read};
+ghost use Rattle.net_class.specs.ClassValues.{json_if, length_read, distances_read, sizes_read, mins_read};
 
 use crate::error::ProjectError;
 use crate::lengths::Mins;

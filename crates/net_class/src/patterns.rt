@@ -2,7 +2,7 @@
 
 ghost use Rattle.std.specs.Prelude.{◌≡◌, ◌↔◌, ◌<◌, ◌≤◌, IsTrue, IfSome, MatchOption, None, Some, false, length, slice_index};
 ghost use Rattle.net_class.specs.Wild.{Matches, matches, sign_of, is_same, continues, next_character};
-ghost use Rattle.net_class.specs.Runs.{behind, run_of, matches_an_end};
+ghost use Rattle.net_class.specs.PatternRuns.{behind, run_of, matches_an_end};
 
 /// What is left of a pattern, which is nothing or begins with `*`, and of a name.
 #[derive(Clone, Copy, Drop)]

@@ -4,8 +4,8 @@ ghost use Rattle.std.specs.Prelude.{◌≡◌, [], map, OnOk};
 ghost use Rattle.json_exact.specs.Json.{items};
 ghost use Rattle.json_exact.specs.Handles.{json_of};
 ghost use Rattle.net_class.specs.ClassesOf.{written_in, patterns_in};
-ghost use Rattle.net_class.specs.Walk.{with_class, with_classes, with_texts, with_pattern, with_patterns};
-ghost use Rattle.net_class.specs.Views.{plain_pattern, json_if, Gives, GivesPatterns, Leaves};
+ghost use Rattle.net_class.specs.ProjectWalk.{with_class, with_classes, with_texts, with_pattern, with_patterns};
+ghost use Rattle.net_class.specs.ClassValues.{plain_pattern, json_if, Gives, GivesPatterns, Leaves};
 
 use crate::drafts::Drafts;
 use crate::error::ProjectError;
@@ -18,7 +18,7 @@ use std::alloc::{AllocError, Global};
 // ---- classes
 
 /// One entry of the list of classes.
-#[tactic(auto, unfolding(crate::specs::Walk::with_class))]
+#[tactic(auto, unfolding(crate::specs::ProjectWalk::with_class))]
 fn with_class(alloc: Global, drafts: Drafts, v: Value<'_, '_>) -> Result<Drafts, ProjectError>
     ensures { Gives result (with_class drafts (json_of v.entry)) }
 {
@@ -77,7 +77,7 @@ fn add_pattern(
 }
 
 /// One entry of the list of patterns.
-#[tactic(auto, unfolding(crate::specs::Walk::with_pattern))]
+#[tactic(auto, unfolding(crate::specs::ProjectWalk::with_pattern))]
 fn read_pattern(
     alloc: Global,
     patterns: &mut Vec<Pattern>,

@@ -5,7 +5,7 @@ use Rattle.std.specs.List.{AllPairs}
 use Rattle.std.proofs.Math.Dec.{T_prop}
 use Rattle.std.proofs.lemmas.Bool.{cases_lt}
 use Rattle.std.proofs.lemmas.List.{get_or_append_left, get_or-append_right, get_or_default}
-use Rattle.ratsnest.specs.Reach.{IsInReach}
+use Rattle.ratsnest.specs.CoordinateRange.{IsInReach}
 use Rattle.ratsnest.specs.declared.anchor.Anchor.{Anchor}
 use Rattle.ratsnest.specs.NestOf.{nowhere, anchor_at, group_at, group_count, IsBefore, AnchorsRise}
 use Rattle.net_groups.proofs.OneOrder.{same_lists}

@@ -8,10 +8,10 @@ use Rattle.int_algebra.proofs.Scalars.{passed, passed_is}
 use Rattle.geo_seg.specs.declared.points.Point.{Point}
 use Rattle.board_items.specs.declared.item.Item.{Item}
 use Rattle.board_items.specs.Boards.{item_at, is_near, is_on_board}
-use Rattle.ratsnest.specs.Reach.{IsInReach}
+use Rattle.ratsnest.specs.CoordinateRange.{IsInReach}
 use Rattle.ratsnest.specs.declared.anchor.Anchor.{Anchor}
 use Rattle.ratsnest.specs.NestOf.{IsBefore}
-use Rattle.net_groups.specs.Anchors.{track_end, IsSpot, HasAnchor}
+use Rattle.net_groups.specs.Anchors.{track_end, IsAnchorPoint, HasAnchor}
 use Rattle.net_groups.specs.Numbering.{AreOwn, AreOwnAdded, IsAnchorAmong, AreAnchorsAmong, AreAdded}
 use Rattle.net_groups.proofs.AnchorLists.{one_anchor, here, later, nothing, cases, only_one, rise_none, rise_one, rise_append}
 
@@ -40,10 +40,10 @@ y_passed item h = reach_passed item.y (y_in_reach item h)
 
 -- ---- one item
 abbrev NoEnd : Item → Type 0
-NoEnd item = (x y : ℤ) → ¬ (IsSpot (track_end item.what item.copper) x y)
+NoEnd item = (x y : ℤ) → ¬ (IsAnchorPoint (track_end item.what item.copper) x y)
 
 abbrev HasEnd : Item → ℤ → ℤ → Type 0
-HasEnd item x y = IsSpot (track_end item.what item.copper) x y
+HasEnd item x y = IsAnchorPoint (track_end item.what item.copper) x y
 
 pub end_passed : (item : Item) (x y : ℤ) → IsInReach x → IsInReach y → HasEnd item x y → HasEnd item (passed x) (passed y)
 end_passed item x y r t h =
@@ -53,9 +53,9 @@ end_passed item x y r t h =
 half_once : (x z v : ℤ) → pos 2 *ℤ x ≡ v → pos 2 *ℤ z ≡ v → x ≡ z
 half_once x z v e f = omega (arith, ints, e, f)
 
-spot_once : (end : Option Point) (x y u v : ℤ) → IsSpot end x y → IsSpot end u v → (x ≡ u) × (y ≡ v)
-spot_once None x y u v h k = absurd h
-spot_once (Some p) x y u v h k = (half_once x u p.x h.0 k.0, half_once y v p.y h.1 k.1)
+anchor_point_once : (end : Option Point) (x y u v : ℤ) → IsAnchorPoint end x y → IsAnchorPoint end u v → (x ≡ u) × (y ≡ v)
+anchor_point_once None x y u v h k = absurd h
+anchor_point_once (Some p) x y u v h k = (half_once x u p.x h.0 k.0, half_once y v p.y h.1 k.1)
 
 -- its position as an anchor
 record IsStart (item : Item) (id group : ℕ) (a : Anchor) : Type 0 where
@@ -83,7 +83,7 @@ one_start item id group a b s i g n x y = one_anchor a b (s.id_is ∙ sym i) (s.
 
 one_end : (item : Item) (id group : ℕ) (a b : Anchor) → IsEnd item id group a → b.id ≡ id → b.group ≡ group → b.number ≡ 1 → HasEnd item b.x b.y → a ≡ b
 one_end item id group a b s i g n p =
-    let at = spot_once (track_end item.what item.copper) a.x a.y b.x b.y s.place p in
+    let at = anchor_point_once (track_end item.what item.copper) a.x a.y b.x b.y s.place p in
     one_anchor a b (s.id_is ∙ sym i) (s.number_is ∙ sym n) (s.group_is ∙ sym g) at.0 at.1
 
 own_one : (item : Item) (id group : ℕ) (a : Anchor) → IsStart item id group a → NoEnd item → AreOwn item id group (a ∷ [])

@@ -6,9 +6,9 @@ use Rattle.board_items.specs.declared.item.Item.{Item}
 use Rattle.board_items.specs.Boards.{PlainBoard, IsSound, is_on_board, has_layers_of, item_at, ids_of_net}
 use Rattle.ratsnest.specs.declared.anchor.Anchor.{Anchor}
 use Rattle.ratsnest.specs.NestOf.{GroupsOccur}
-use Rattle.net_groups.specs.Classes.{least}
+use Rattle.net_groups.specs.ConnectedClasses.{least}
 use Rattle.net_groups.specs.Touching.{IsConductor}
-use Rattle.net_groups.specs.Groups.{items_of, HasCopper, AreGroups, IsOnBoard}
+use Rattle.net_groups.specs.NetGroups.{items_of, HasCopper, AreGroups, HasItem}
 use Rattle.net_groups.specs.Anchors.{HasAnchor, IsAnchor, AreAnchorsOf, AreAnchors}
 use Rattle.net_groups.specs.Numbering.{AreNumbered, AreAnchorsAmong}
 use Rattle.net_groups.proofs.AnchorLists.{some_group, has_group, same_anchors}
@@ -38,16 +38,16 @@ module _ (board : PlainBoard) (net : ℕ) (sound : IsSound board) (groups : List
   member_of : (g id : ℕ) → Contains (get_or groups g []) id → IsConductor board net id
   member_of g id c = conductor board net sound id (copper_of g id c)
 
-  found_some : (id : ℕ) (item : Item) → item_at board.items id ≡ Some item → IsOnBoard board id
+  found_some : (id : ℕ) (item : Item) → item_at board.items id ≡ Some item → HasItem board id
   found_some id item found = subst IsSome (sym found) refl
 
   listed : (id : ℕ) → HasCopper (items_of net board.items) id → Contains (ids_of_net net board.items) id
   listed id own = ids_has (λ item. nat_eq item.net net) board.items id own.item (its_item board net sound id own) (eq-eqb own.item.net net (its_net board net sound id own))
 
-  pub members_placed : All (All (IsOnBoard board)) groups
+  pub members_placed : All (All (HasItem board)) groups
   members_placed =
-      All-weaker (λ list. All (HasCopper (items_of net board.items)) list) (All (IsOnBoard board))
-      (λ list all. All-weaker (HasCopper (items_of net board.items)) (IsOnBoard board) (λ id has. let is = conductor board net sound id has in found_some id is.item is.found) list all)
+      All-weaker (λ list. All (HasCopper (items_of net board.items)) list) (All (HasItem board))
+      (λ list all. All-weaker (HasCopper (items_of net board.items)) (HasItem board) (λ id has. let is = conductor board net sound id has in found_some id is.item is.found) list all)
       groups are.only
 
   pub members_listed : All (All (Contains (ids_of_net net board.items))) groups
@@ -109,7 +109,7 @@ module _ (board : PlainBoard) (net : ℕ) (sound : IsSound board) (groups : List
     pub anchors_few : length anchors < 4294967296
     anchors_few = omega (arith, among.few, ids_few (λ item. nat_eq item.net net) board.items, sound.few)
 
-    pub anchors_placed : All (λ (a : Anchor). IsOnBoard board a.id) anchors
+    pub anchors_placed : All (λ (a : Anchor). HasItem board a.id) anchors
     anchors_placed k d lt = let is = among.only (get_or anchors k d) (Contains-get_or anchors k d lt) in found_some (get_or anchors k d).id is.item is.found
 
     pub anchors_occur : GroupsOccur anchors

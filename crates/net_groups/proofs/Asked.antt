@@ -6,10 +6,10 @@ use Rattle.geo_seg.specs.declared.boxes.Bounds.{Bounds}
 use Rattle.geo_seg.specs.Boxes.{FitsWithin}
 use Rattle.box_index.specs.Tiles.{PlainIndex, IsSoundIndex, near_of, is_in}
 use Rattle.box_index.specs.declared.entry.Entry.{Entry}
-use Rattle.net_groups.specs.Classes.{Rises}
+use Rattle.net_groups.specs.ConnectedClasses.{Rises}
 use Rattle.net_groups.specs.Labels.{label_at, IsLabelled, IsVisited}
 use Rattle.net_groups.specs.Asking.{is_asked, ids_asked}
-use Rattle.net_groups.specs.Rooms.{HoldsRooms}
+use Rattle.net_groups.specs.ItemBoxes.{HoldsItemBoxes}
 use Rattle.net_groups.proofs.Marks.{distinct}
 use Rattle.net_groups.proofs.Conductors.{contains_here, contains_later}
 use Rattle.net_groups.proofs.Visits.{visited_skip, visited_push}
@@ -81,7 +81,7 @@ pub fits_at : (index : PlainIndex) (tile : ℕ) → IsSoundIndex index → (es :
 fits_at index tile sound es same i lt =
     subst (λ (xs : List Entry). All (λ e. FitsWithin (pos 2000000000) e.bounds) xs) (sym same) (All-filter (is_in index tile) (λ e. FitsWithin (pos 2000000000) e.bounds) index.entries sound.fit) i no_entry lt
 
--- the places of entries of an index of rooms
-pub place_at : (rooms : List Bounds) (index : PlainIndex) (tile : ℕ) → HoldsRooms rooms index → (es : List Entry) → es ≡ near_of index tile → (i : ℕ) → i < length es → (get_or es i no_entry).id < length rooms
-place_at rooms index tile holds es same i lt =
-    subst (λ (xs : List Entry). All (λ e. e.id < length rooms) xs) (sym same) (All-filter (is_in index tile) (λ e. e.id < length rooms) index.entries holds.only) i no_entry lt
+-- the places of entries of an index of item boxes
+pub place_at : (item_boxes : List Bounds) (index : PlainIndex) (tile : ℕ) → HoldsItemBoxes item_boxes index → (es : List Entry) → es ≡ near_of index tile → (i : ℕ) → i < length es → (get_or es i no_entry).id < length item_boxes
+place_at item_boxes index tile holds es same i lt =
+    subst (λ (xs : List Entry). All (λ e. e.id < length item_boxes) xs) (sym same) (All-filter (is_in index tile) (λ e. e.id < length item_boxes) index.entries holds.only) i no_entry lt

@@ -5,7 +5,7 @@ use Rattle.std.specs.List.Sorted.{IsBinarySearchResult}
 use Rattle.std.proofs.lemmas.Bool.{cases_eq, cases_lt, ne_eqb, eqb-true}
 use Rattle.std.proofs.lemmas.List.{get_or_default}
 use Rattle.std.proofs.lemmas.List.Sorted.{searched}
-use Rattle.net_groups.specs.Classes.{Rises}
+use Rattle.net_groups.specs.ConnectedClasses.{Rises}
 use Rattle.net_groups.specs.Numbering.{number_of}
 
 -- ---- the place of an id

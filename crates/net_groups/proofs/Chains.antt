@@ -1,7 +1,7 @@
 -- Chains, one after another and back.
 use Rattle.std.proofs.Common.{ℕ}
-use Rattle.net_groups.specs.Chains.{Chain}
-use Rattle.net_groups.specs.Chains.Chain.{here, step}
+use Rattle.net_groups.specs.StepChains.{Chain}
+use Rattle.net_groups.specs.StepChains.Chain.{here, step}
 
 module _ (Step : ℕ → ℕ → Type 0) where
   pub chain_join : {i j k : ℕ} → Chain Step i j → Chain Step j k → Chain Step i k

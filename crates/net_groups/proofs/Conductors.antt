@@ -7,7 +7,7 @@ use Rattle.std.proofs.lemmas.List.Kept.{AllPairs-cons}
 use Rattle.board_items.specs.declared.item.Item.{Item}
 use Rattle.board_items.specs.Boards.{PlainBoard, Rise, IsSound, item_at, ids_of_net}
 use Rattle.board_items.proofs.Rising.{item_at-middle}
-use Rattle.net_groups.specs.Classes.{Rises}
+use Rattle.net_groups.specs.ConnectedClasses.{Rises}
 use Rattle.net_groups.specs.Touching.{IsConductor}
 use Rattle.net_groups.specs.Labels.{is_copper, is_conductor, conductors_in, AreConductors}
 

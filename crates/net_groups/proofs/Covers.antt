@@ -9,8 +9,8 @@ use Rattle.geo_seg.specs.declared.boxes.Bounds.{Bounds}
 use Rattle.geo_seg.specs.Boxes.{widened}
 use Rattle.board_items.specs.declared.item.Item.{Item}
 use Rattle.board_items.specs.Boards.{PlainBoard}
-use Rattle.board_items.specs.Parts.{parts_of, hole_parts, kind_parts}
-use Rattle.board_items.specs.Copper.{CopperMeets}
+use Rattle.board_items.specs.ItemParts.{parts_of, hole_parts, kind_parts}
+use Rattle.board_items.specs.CopperPairs.{CopperMeets}
 use Rattle.geo_seg.specs.Boxes.{BoxesMeet}
 use Rattle.item_copper.proofs.Meeting.{copper_to}
 use Rattle.item_copper.proofs.Symmetry.{copper_meets_back}
@@ -21,7 +21,7 @@ use Rattle.box_index.proofs.Buckets.{complete}
 use Rattle.net_groups.specs.Touching.{TouchOn}
 use Rattle.geo_seg.specs.Boxes.{do_boxes_meet}
 use Rattle.net_groups.specs.Asking.{tile_for, asked_in}
-use Rattle.net_groups.specs.Rooms.{AreRooms, HoldsRooms, IsRoomAt}
+use Rattle.net_groups.specs.ItemBoxes.{AreItemBoxes, HoldsItemBoxes, IsItemBoxAt}
 use Rattle.net_groups.proofs.Asked.{asked_contains}
 
 -- ---- touches go both ways
@@ -90,13 +90,13 @@ module _ (index : PlainIndex) (sound : IsSoundIndex index) where
   lent_meets tile own c = All-contains (λ (e : Entry). is_in index tile e ≡ true) (near_of index tile) own (filter_passes (is_in index tile) index.entries) c
 
 -- ---- all that a place touches
-module _ (Step : ℕ → ℕ → Type 0) (ids : List ℕ) (rooms : List Bounds) (index : PlainIndex) (are : AreRooms Step ids rooms) (holds : HoldsRooms rooms index) (sound : IsSoundIndex index) (own : Entry) (o : IsRoomAt rooms own) where
+module _ (Step : ℕ → ℕ → Type 0) (ids : List ℕ) (item_boxes : List Bounds) (index : PlainIndex) (are : AreItemBoxes Step ids item_boxes) (holds : HoldsItemBoxes item_boxes index) (sound : IsSoundIndex index) (own : Entry) (o : IsItemBoxAt item_boxes own) where
   pub asked_somewhere : (j : ℕ) → j < length ids → Step (get_or ids own.id 0) (get_or ids j 0)
       → (tile : ℕ) × (meets_tile (widened own.bounds (margin index)) tile ≡ true) × Contains (asked_in ids index tile own) (get_or ids j 0)
   asked_somewhere j lt s =
       let inside : own.id < length ids = omega (arith, are.many, o.inside) in
-      let other : Entry = record { id = j; bounds = get_or rooms j own.bounds } in
-      let meets : BoxesMeet own.bounds other.bounds = subst (λ (b : Bounds). BoxesMeet b (get_or rooms j own.bounds)) (o.is own.bounds) (are.meet own.id j own.bounds inside lt s) in
+      let other : Entry = record { id = j; bounds = get_or item_boxes j own.bounds } in
+      let meets : BoxesMeet own.bounds other.bounds = subst (λ (b : Bounds). BoxesMeet b (get_or item_boxes j own.bounds)) (o.is own.bounds) (are.meet own.id j own.bounds inside lt s) in
       let mine : Contains index.entries own = subst (λ (b : Bounds). Contains index.entries (record { id = own.id; bounds = b })) (o.is own.bounds) (holds.each own.id own.bounds o.inside) in
       let theirs : Contains index.entries other = holds.each j own.bounds (omega (arith, are.many, lt)) in
       let tile = tile_for (margin index) own other in

@@ -4,7 +4,7 @@ pub mod Visits
 pub mod Spreads
 pub mod Asked
 pub mod Covers
-pub mod RoomRuns
+pub mod ItemBoxRuns
 pub mod Walks
 pub mod Owns
 pub mod Placed

@@ -2,7 +2,7 @@
 use Rattle.std.proofs.Common.{◌≡◌, ◌⊎◌, ℕ, zero, suc, ◌+◌, ◌<◌, List, [], ◌∷◌, length, get_or, set, Option, None, Some, inl, inr, sym, subst, ◌∙◌, arith}
 use Rattle.std.proofs.lemmas.List.{get_or-set_same, get_or-set_other, get_or_past}
 use Rattle.std.proofs.lemmas.Bool.{cases_eq, cases_order, cases_lt}
-use Rattle.net_groups.specs.Classes.{Rises}
+use Rattle.net_groups.specs.ConnectedClasses.{Rises}
 use Rattle.net_groups.specs.Labels.{label_at, unlabelled}
 
 -- of ids that rise no two places have one id

@@ -7,7 +7,7 @@ use Rattle.std.proofs.lemmas.List.Elements.{Contains-get_or}
 use Rattle.board_items.specs.declared.item.Item.{Item}
 use Rattle.board_items.specs.Boards.{PlainBoard, IsSound, Rise, AllAdmitted, is_admitted, item_at, ids_where, ids_of_net}
 use Rattle.board_items.proofs.Rising.{rise_ends}
-use Rattle.net_groups.specs.Classes.{Rises}
+use Rattle.net_groups.specs.ConnectedClasses.{Rises}
 use Rattle.net_groups.proofs.Conductors.{contains_here, contains_later, contains_cases, contains_nothing}
 
 -- ---- ids of the items that pass a test

@@ -5,10 +5,10 @@ use Rattle.std.specs.List.{All}
 use Rattle.std.proofs.lemmas.List.Elements.{All-weaker}
 use Rattle.board_items.specs.declared.item.Item.{Item}
 use Rattle.board_items.specs.Boards.{PlainBoard, Rise, IsSound, item_at}
-use Rattle.net_groups.specs.Chains.{Chain}
-use Rattle.net_groups.specs.Chains.Chain.{here, step}
-use Rattle.net_groups.specs.Classes.{AreClasses}
-use Rattle.net_groups.specs.Groups.{is_of_net, items_of, HasCopper, Touch, AreGroups}
+use Rattle.net_groups.specs.StepChains.{Chain}
+use Rattle.net_groups.specs.StepChains.Chain.{here, step}
+use Rattle.net_groups.specs.ConnectedClasses.{AreClasses}
+use Rattle.net_groups.specs.NetGroups.{is_of_net, items_of, HasCopper, Touch, AreGroups}
 use Rattle.net_groups.specs.Touching.{TouchOn, IsConductor, AreGroupsOn}
 use Rattle.net_groups.proofs.Whole.{touched_conductor}
 

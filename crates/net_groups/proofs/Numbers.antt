@@ -3,7 +3,7 @@ use Rattle.std.proofs.Common.{◌≡◌, ◌⊎◌, ℕ, zero, suc, ◌+◌, ◌
 use Rattle.std.specs.List.{AllPairs}
 use Rattle.std.proofs.lemmas.Bool.{cases_eq, cases_order, ne_eqb}
 use Rattle.std.proofs.lemmas.List.Elements.{Contains-push_cases, Contains-append_left, Contains-push}
-use Rattle.net_groups.specs.Classes.{AreDisjoint}
+use Rattle.net_groups.specs.ConnectedClasses.{AreDisjoint}
 use Rattle.net_groups.specs.Numbering.{IsEntered, AreNumbered}
 use Rattle.net_groups.proofs.AnchorLists.{nothing}
 

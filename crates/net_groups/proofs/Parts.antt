@@ -6,7 +6,7 @@ use Rattle.std.proofs.lemmas.List.Elements.{All-contains, All-contains_itself, A
 use Rattle.board_items.specs.declared.item.Item.{Item}
 use Rattle.board_items.specs.Boards.{PlainBoard, IsSound, name_of, item_at}
 use Rattle.board_index.proofs.OneList.{nothing, cons_case}
-use Rattle.net_groups.specs.Groups.{HasCopper, AreGroupsOf, IsOnBoard, items_of}
+use Rattle.net_groups.specs.NetGroups.{HasCopper, AreGroupsOf, HasItem, items_of}
 use Rattle.net_groups.specs.Anchors.{AreAnchorsOf}
 use Rattle.net_groups.specs.NetParts.{PlainNetPart, IsNetPart, AreParts, IsWritable, real_nets}
 use Rattle.net_groups.proofs.Nets.{conductor}
@@ -38,10 +38,10 @@ its_net board (n ∷ ns) [] h k d lt = absurd h
 its_net board (n ∷ ns) (p ∷ ps) h zero d lt = (n, (0, omega arith, refl), h.0)
 its_net board (n ∷ ns) (p ∷ ps) h (suc k) d lt = let r = its_net board ns ps h.1 k d (omega arith) in (r.0, (suc r.1.0, omega (arith, r.1.1), r.1.2), r.2)
 
-there : (board : PlainBoard) (id : ℕ) (item : Item) → item_at board.items id ≡ Some item → IsOnBoard board id
+there : (board : PlainBoard) (id : ℕ) (item : Item) → item_at board.items id ≡ Some item → HasItem board id
 there board id item e = subst IsSome (sym e) refl
 
-on_board : (board : PlainBoard) → IsSound board → (net id : ℕ) → HasCopper (items_of net board.items) id → IsOnBoard board id
+on_board : (board : PlainBoard) → IsSound board → (net id : ℕ) → HasCopper (items_of net board.items) id → HasItem board id
 on_board board s net id has = let is = conductor board net s id has in there board id is.item is.found
 
 pub writable : (board : PlainBoard) → IsSound board → (net : ℕ) → Contains (real_nets board) net → (part : PlainNetPart) → IsNetPart board net part → IsWritable board part
@@ -51,8 +51,8 @@ writable board s net c part is = record {
       let among : Contains numbers net = All-contains (Contains numbers) (real_nets board) net (All-filter (λ n. not (nat_eq n 0)) (Contains numbers) numbers (All-contains_itself numbers)) c in
       subst (λ (n : ℕ). IsSome (name_of board n)) (sym is.number) (named board.nets net among);
   filled = is.groups.filled;
-  members = All-weaker (All (HasCopper (items_of net board.items))) (All (IsOnBoard board)) (λ group all. All-weaker (HasCopper (items_of net board.items)) (IsOnBoard board) (λ id has. on_board board s net id has) group all) part.groups is.groups.only;
-  anchors = All-weaker (Contains part.anchors) (λ anchor. IsOnBoard board anchor.id) (λ anchor c. on_board board s net anchor.id (is.anchors.only anchor c).own) part.anchors (All-contains_itself part.anchors);
+  members = All-weaker (All (HasCopper (items_of net board.items))) (All (HasItem board)) (λ group all. All-weaker (HasCopper (items_of net board.items)) (HasItem board) (λ id has. on_board board s net id has) group all) part.groups is.groups.only;
+  anchors = All-weaker (Contains part.anchors) (λ anchor. HasItem board anchor.id) (λ anchor c. on_board board s net anchor.id (is.anchors.only anchor c).own) part.anchors (All-contains_itself part.anchors);
   places = All-weaker (Contains part.links) (HasPlaces part.anchors) (λ link c. let l = (is.links.sound link c).link in (let o = l.in_order in let w = l.within in omega arith, l.within)) part.links (All-contains_itself part.links);
 }
 

@@ -3,8 +3,8 @@ use Rattle.std.proofs.Common.{◌≡◌, ◌⊎◌, ℕ, ◌+◌, ◌<◌, ◌�
 use Rattle.std.proofs.lemmas.List.{length-set, length-replicate, get_or-replicate}
 use Rattle.std.proofs.lemmas.List.Elements.{Contains-push, Contains-push_cases, Contains-append_left}
 use Rattle.std.proofs.lemmas.Bool.{cases_lt}
-use Rattle.net_groups.specs.Chains.{Chain}
-use Rattle.net_groups.specs.Chains.Chain.{here}
+use Rattle.net_groups.specs.StepChains.{Chain}
+use Rattle.net_groups.specs.StepChains.Chain.{here}
 use Rattle.net_groups.specs.Labels.{label_at, IsLabelled, IsDone, IsVisited, IsSpread, AreLabels}
 use Rattle.net_groups.proofs.Chains.{chain_join, chain_end, chain_back}
 use Rattle.net_groups.proofs.Marks.{within, set_here, set_kept, set_cases}

@@ -1,4 +1,4 @@
--- Rooms that are moved and stretched: those that met still do.
+-- Item boxes that are moved and stretched: those that met still do.
 use Rattle.std.proofs.Common.{◌≡◌, ℕ, ◌+◌, ◌-◌, ◌<◌, ℤ, pos, neg_ℤ, ◌-ℤ◌, ◌*ℤ◌, ◌≤ℤ◌, List, [], ◌∷◌, ◌++◌, length, get_or, All, inl, inr, refl, sym, subst, ap, ◌∙◌, arith}
 use Rattle.std.specs.Int.{int_max, int_min}
 use Rattle.std.proofs.lemmas.Int.{ints, clamps}
@@ -14,7 +14,7 @@ use Rattle.geo_seg.specs.declared.boxes.Bounds.{Bounds}
 use Rattle.geo_seg.specs.Boxes.{BoxesMeet, FitsWithin}
 use Rattle.net_groups.specs.declared.stretch.Stretch.{Stretch}
 use Rattle.net_groups.specs.Stretches.{stretched_line, stretched}
-use Rattle.net_groups.specs.Rooms.{AreSpread}
+use Rattle.net_groups.specs.ItemBoxes.{AreSpread}
 
 clamped : (a b : ℤ) → a ≤ℤ b → int_max (int_min a (pos 1500000000)) (neg_ℤ (pos 1500000000)) ≤ℤ int_max (int_min b (pos 1500000000)) (neg_ℤ (pos 1500000000))
 clamped a b h = omega (arith, ints, clamps)
@@ -119,36 +119,36 @@ sides l t r b = record { left = l; top = t; right = r; bottom = b }
 pub same_sides : (l t r b l' t' r' b' : ℤ) → l ≡ l' → t ≡ t' → r ≡ r' → b ≡ b' → sides l t r b ≡ sides l' t' r' b'
 same_sides l t r b l' t' r' b' h k m n = cc
 
--- ---- a list of rooms
--- the first rooms were stretched
-pub record AreStretchedTo (s : Stretch) (rooms : List Bounds) (count : ℕ) (wide : List Bounds) : Type 0 where
+-- ---- a list of item boxes
+-- the first item boxes were stretched
+pub record AreStretchedTo (s : Stretch) (item_boxes : List Bounds) (count : ℕ) (wide : List Bounds) : Type 0 where
   pub many : length wide ≡ count
-  pub fit : All (λ room. FitsWithin (pos 1500000000) room) wide
-  pub each : (k : ℕ) (d : Bounds) → k < count → get_or wide k d ≡ stretched s (get_or rooms k d)
+  pub fit : All (λ item_box. FitsWithin (pos 1500000000) item_box) wide
+  pub each : (k : ℕ) (d : Bounds) → k < count → get_or wide k d ≡ stretched s (get_or item_boxes k d)
 
-pub stretched_none : (s : Stretch) (rooms : List Bounds) → AreStretchedTo s rooms 0 []
-stretched_none s rooms = record { many = refl; fit = λ k d lt. absurd (omega arith); each = λ k d lt. absurd (omega arith) }
+pub stretched_none : (s : Stretch) (item_boxes : List Bounds) → AreStretchedTo s item_boxes 0 []
+stretched_none s item_boxes = record { many = refl; fit = λ k d lt. absurd (omega arith); each = λ k d lt. absurd (omega arith) }
 
-pub stretched_more : (s : Stretch) (rooms : List Bounds) (count : ℕ) (wide : List Bounds) (room : Bounds) → AreStretchedTo s rooms count wide → FitsWithin (pos 1500000000) room
-    → ((d : Bounds) → room ≡ stretched s (get_or rooms count d)) → AreStretchedTo s rooms (count + 1) (wide ++ room ∷ [])
-stretched_more s rooms count wide room so_far fits is = record {
-  many = length_push wide room ∙ ap (λ n. n + 1) so_far.many;
-  fit = All-push (λ room. FitsWithin (pos 1500000000) room) wide room so_far.fit fits;
+pub stretched_more : (s : Stretch) (item_boxes : List Bounds) (count : ℕ) (wide : List Bounds) (item_box : Bounds) → AreStretchedTo s item_boxes count wide → FitsWithin (pos 1500000000) item_box
+    → ((d : Bounds) → item_box ≡ stretched s (get_or item_boxes count d)) → AreStretchedTo s item_boxes (count + 1) (wide ++ item_box ∷ [])
+stretched_more s item_boxes count wide item_box so_far fits is = record {
+  many = length_push wide item_box ∙ ap (λ n. n + 1) so_far.many;
+  fit = All-push (λ item_box. FitsWithin (pos 1500000000) item_box) wide item_box so_far.fit fits;
   each = λ k d lt. elim (cases_lt k count) [
-    | inl less ↦ get_or_append_left wide (room ∷ []) d k (omega (arith, less, so_far.many)) ∙ so_far.each k d less
+    | inl less ↦ get_or_append_left wide (item_box ∷ []) d k (omega (arith, less, so_far.many)) ∙ so_far.each k d less
     | inr last ↦
         let here : count ≡ k = omega arith in
         let zero : k - length wide ≡ 0 = omega (arith, here, so_far.many) in
-        let at : get_or (wide ++ room ∷ []) k d ≡ get_or (room ∷ []) (k - length wide) d = get_or-append_right wide (room ∷ []) (length wide) k d refl (omega (arith, here, so_far.many)) in
-        at ∙ (ap (λ n. get_or (room ∷ []) n d) zero ∙ subst (λ (n : ℕ). room ≡ stretched s (get_or rooms n d)) here (is d))
+        let at : get_or (wide ++ item_box ∷ []) k d ≡ get_or (item_box ∷ []) (k - length wide) d = get_or-append_right wide (item_box ∷ []) (length wide) k d refl (omega (arith, here, so_far.many)) in
+        at ∙ (ap (λ n. get_or (item_box ∷ []) n d) zero ∙ subst (λ (n : ℕ). item_box ≡ stretched s (get_or item_boxes n d)) here (is d))
   ];
 }
 
-pub stretched_all : (s : Stretch) (rooms : List Bounds) (count : ℕ) (wide : List Bounds) → count ≡ length rooms → AreStretchedTo s rooms count wide → AreSpread rooms wide
-stretched_all s rooms count wide all so_far = record {
+pub stretched_all : (s : Stretch) (item_boxes : List Bounds) (count : ℕ) (wide : List Bounds) → count ≡ length item_boxes → AreStretchedTo s item_boxes count wide → AreSpread item_boxes wide
+stretched_all s item_boxes count wide all so_far = record {
   many = so_far.many ∙ all;
   fit = so_far.fit;
   meet = λ i j d hi hj m.
       subst (λ (b : Bounds). BoxesMeet b (get_or wide j d)) (sym (so_far.each i d (omega arith)))
-      (subst (BoxesMeet (stretched s (get_or rooms i d))) (sym (so_far.each j d (omega arith))) (stretched_meet s (get_or rooms i d) (get_or rooms j d) m));
+      (subst (BoxesMeet (stretched s (get_or item_boxes i d))) (sym (so_far.each j d (omega arith))) (stretched_meet s (get_or item_boxes i d) (get_or item_boxes j d) m));
 }

@@ -10,7 +10,7 @@ use Rattle.box_index.specs.Areas.{has_tile, end_of}
 use Rattle.box_index.specs.Tiles.{PlainIndex, IsSoundIndex, margin, meets_tile}
 use Rattle.net_groups.specs.Labels.{IsVisited}
 use Rattle.net_groups.specs.Asking.{asked_in, IsWalked, IsVisitedWhole}
-use Rattle.net_groups.specs.Rooms.{AreRooms, HoldsRooms, IsRoomAt}
+use Rattle.net_groups.specs.ItemBoxes.{AreItemBoxes, HoldsItemBoxes, IsItemBoxAt}
 use Rattle.net_groups.proofs.Visits.{visited_none, visited_join}
 use Rattle.net_groups.proofs.Covers.{covers}
 
@@ -44,15 +44,15 @@ module _ (Step : ℕ → ℕ → Type 0) (ids : List ℕ) (index : PlainIndex) (
         | inr (inr after) ↦ absurd (both_ways (has_tile area tile) t (none tile after below))
       ]
 
-pub walk_done : (Step : ℕ → ℕ → Type 0) (ids : List ℕ) (rooms : List Bounds) (index : PlainIndex) (area : Area) (own : Entry) (label : ℕ) (labels now : List (Option ℕ)) (stack here_stack : List ℕ) (here : ℕ)
+pub walk_done : (Step : ℕ → ℕ → Type 0) (ids : List ℕ) (item_boxes : List Bounds) (index : PlainIndex) (area : Area) (own : Entry) (label : ℕ) (labels now : List (Option ℕ)) (stack here_stack : List ℕ) (here : ℕ)
     → IsWalked Step ids index area own own.id label labels now stack here_stack here
-    → AreRooms Step ids rooms → HoldsRooms rooms index → IsSoundIndex index → IsRoomAt rooms own
+    → AreItemBoxes Step ids item_boxes → HoldsItemBoxes item_boxes index → IsSoundIndex index → IsItemBoxAt item_boxes own
     → ((tile : ℕ) → has_tile area tile ≡ meets_tile (widened own.bounds (margin index)) tile) → ((tile : ℕ) → here ≤ tile → has_tile area tile ≡ false)
     → IsVisitedWhole Step ids own.id label labels now stack here_stack
-walk_done Step ids rooms index area own label labels now stack here_stack here w are holds sound o tiles none = record {
+walk_done Step ids item_boxes index area own label labels now stack here_stack here w are holds sound o tiles none = record {
   others = w.others;
   visited = w.visited;
-  covers = covers Step ids rooms index are holds sound own o w.others each;
+  covers = covers Step ids item_boxes index are holds sound own o w.others each;
 }
   where
     each : (tile : ℕ) → meets_tile (widened own.bounds (margin index)) tile ≡ true → (a : ℕ) → Contains (asked_in ids index tile own) a → Contains w.others a

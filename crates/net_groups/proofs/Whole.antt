@@ -10,9 +10,9 @@ use Rattle.board_items.specs.Boards.{PlainBoard}
 use Rattle.item_copper.proofs.Meeting.{copper_to, any_none, MeetsSome}
 use Rattle.item_copper.proofs.Symmetry.{copper_meets_back}
 use Rattle.net_groups.specs.Touching.{TouchOn}
-use Rattle.net_groups.specs.Chains.{Chain}
-use Rattle.net_groups.specs.Chains.Chain.{here, step}
-use Rattle.net_groups.specs.Classes.{Rises, least, AreTogether, AreDisjoint}
+use Rattle.net_groups.specs.StepChains.{Chain}
+use Rattle.net_groups.specs.StepChains.Chain.{here, step}
+use Rattle.net_groups.specs.ConnectedClasses.{Rises, least, AreTogether, AreDisjoint}
 use Rattle.net_groups.specs.Touching.{IsConductor, AreGroupsOn}
 use Rattle.net_groups.specs.Labels.{label_at, has_label, ids_of, AreConductors, AreLabels, AreGathered}
 use Rattle.net_groups.proofs.Marks.{distinct, within}

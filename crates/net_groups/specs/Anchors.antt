@@ -9,7 +9,7 @@ use Rattle.board_items.specs.declared.item.What.{What}
 use Rattle.board_items.specs.declared.item.What.TheVariants.{Track}
 use Rattle.board_items.specs.declared.item.Item.{Item}
 use Rattle.board_items.specs.Boards.{PlainBoard}
-use Rattle.net_groups.specs.Groups.{items_of, HasCopper}
+use Rattle.net_groups.specs.NetGroups.{items_of, HasCopper}
 use Rattle.ratsnest.specs.declared.anchor.Anchor.{Anchor}
 use Rattle.ratsnest.specs.NestOf.{AnchorsRise}
 
@@ -29,15 +29,15 @@ track_end (Track width) copper = copper_end copper
 track_end _ copper = None
 
 -- the point in nanometres, so twice these are its coordinates
-abbrev pub IsSpot : Option Point → ℤ → ℤ → Type 0
-IsSpot None x y = ⊥
-IsSpot (Some p) x y = (pos 2 *ℤ x ≡ p.x) × (pos 2 *ℤ y ≡ p.y)
+abbrev pub IsAnchorPoint : Option Point → ℤ → ℤ → Type 0
+IsAnchorPoint None x y = ⊥
+IsAnchorPoint (Some p) x y = (pos 2 *ℤ x ≡ p.x) × (pos 2 *ℤ y ≡ p.y)
 
 -- the item has an anchor of this number there: number 0 at its position, and number 1 at the other end of a track
 abbrev pub HasAnchor : Item → ℕ → ℤ → ℤ → Type 0
 HasAnchor item number x y =
     ((number ≡ 0) × (x ≡ item.x) × (y ≡ item.y))
-    ⊎ ((number ≡ 1) × IsSpot (track_end item.what item.copper) x y)
+    ⊎ ((number ≡ 1) × IsAnchorPoint (track_end item.what item.copper) x y)
 
 -- an anchor of a member of a group, which is an item with copper
 pub record IsAnchor (items : List (ℕ × Item)) (groups : List (List ℕ)) (anchor : Anchor) : Type 0 where

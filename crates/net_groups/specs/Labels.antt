@@ -2,8 +2,8 @@
 use Rattle.std.specs.Prelude.{◌≡◌, ℕ, suc, ◌+◌, ◌<◌, ◌≤◌, ◌==◌, Bool, false, not, ◌&&◌, if◌then◌else◌, List, [], ◌∷◌, length, slice_index, slice_index_or, ◌⊎◌, Option, None, Some, Contains}
 use Rattle.board_items.specs.declared.item.Item.{Item}
 use Rattle.board_items.specs.Boards.{PlainBoard}
-use Rattle.net_groups.specs.Chains.{Chain}
-use Rattle.net_groups.specs.Classes.{Rises}
+use Rattle.net_groups.specs.StepChains.{Chain}
+use Rattle.net_groups.specs.ConnectedClasses.{Rises}
 use Rattle.net_groups.specs.Touching.{IsConductor}
 
 -- the item of an id has copper

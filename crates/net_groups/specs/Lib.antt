@@ -1,9 +1,9 @@
-pub mod Chains
-pub mod Classes
-pub mod Groups
+pub mod StepChains
+pub mod ConnectedClasses
+pub mod NetGroups
 pub mod Touching
 pub mod Labels
-pub mod Rooms
+pub mod ItemBoxes
 pub mod Stretches
 pub mod Asking
 pub mod Anchors

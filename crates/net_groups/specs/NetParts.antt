@@ -5,7 +5,7 @@ use Rattle.board_items.specs.Boards.{PlainBoard, name_of}
 use Rattle.ratsnest.specs.declared.anchor.Anchor.{Anchor}
 use Rattle.ratsnest.specs.declared.link.Link.{Link}
 use Rattle.ratsnest.specs.NestOf.{IsNest, HasPlaces}
-use Rattle.net_groups.specs.Groups.{AreGroups, IsOnBoard}
+use Rattle.net_groups.specs.NetGroups.{AreGroups, HasItem}
 use Rattle.net_groups.specs.Anchors.{AreAnchors}
 
 -- its groups, where links may end, and the links
@@ -38,6 +38,6 @@ AreParts board parts = AllZip (IsNetPart board) (real_nets board) parts
 pub record IsWritable (board : PlainBoard) (part : PlainNetPart) : Type 0 where
   pub declared : IsSome (name_of board part.net)
   pub filled : All (λ group. 0 < length group) part.groups
-  pub members : All (All (IsOnBoard board)) part.groups
-  pub anchors : All (λ anchor. IsOnBoard board anchor.id) part.anchors
+  pub members : All (All (HasItem board)) part.groups
+  pub anchors : All (λ anchor. HasItem board anchor.id) part.anchors
   pub places : All (HasPlaces part.anchors) part.links

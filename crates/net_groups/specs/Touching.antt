@@ -2,9 +2,9 @@
 use Rattle.std.specs.Prelude.{◌≡◌, ◌≢◌, ℕ, List, [], Some}
 use Rattle.board_items.specs.declared.item.Item.{Item}
 use Rattle.board_items.specs.Boards.{PlainBoard, item_at}
-use Rattle.board_items.specs.Copper.{CopperMeets}
-use Rattle.net_groups.specs.Chains.{Chain}
-use Rattle.net_groups.specs.Classes.{AreClasses}
+use Rattle.board_items.specs.CopperPairs.{CopperMeets}
+use Rattle.net_groups.specs.StepChains.{Chain}
+use Rattle.net_groups.specs.ConnectedClasses.{AreClasses}
 
 -- the two items have the same net, which is one, and their copper meets
 pub record Touching (a b : Item) : Type 0 where

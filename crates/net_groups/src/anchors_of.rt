@@ -3,8 +3,8 @@
 ghost use Rattle.std.specs.Prelude.{◌≡◌, ◌<◌, ◌^◌, ℕ, true, Option, IfOk, OnOk, All, length};
 ghost use Rattle.board_items.specs.Boards.{IsSound, ids_of_net, is_on_board};
 ghost use Rattle.ratsnest.specs.NestOf.{AnchorsRise, GroupsOccur};
-ghost use Rattle.net_groups.specs.Groups.{AreGroups, IsOnBoard};
-ghost use Rattle.net_groups.specs.Classes.{Rises};
+ghost use Rattle.net_groups.specs.NetGroups.{AreGroups, HasItem};
+ghost use Rattle.net_groups.specs.ConnectedClasses.{Rises};
 ghost use Rattle.net_groups.specs.Anchors.{AreAnchors};
 ghost use Rattle.net_groups.specs.Numbering.{number_of, AreOwnAdded, AreAdded, AreAnchorsAmong};
 
@@ -87,7 +87,7 @@ fn ids_of(board: &Board, net: u32) -> &[u32]
 
 /// The anchors of a net: those of the members of its groups, by rising id and number, each with the number of its group.
 ///
-/// A track has two anchors, its position and its other end; any other item has its position alone. Only want of memory refuses
+/// A track has two anchors, its position and its other end; any other item has its position alone. Only running out of memory refuses
 /// it. It takes about as long as the net has items.
 pub fn anchors(
     alloc: Global,
@@ -101,7 +101,7 @@ pub fn anchors(
     ensures occur { IfOk result (λ anchors. GroupsOccur anchors.items) }
     ensures few { IfOk result (λ anchors. length anchors.items < 2 ^ 32) }
     ensures placed { IfOk result (λ anchors.
-        All (λ anchor. IsOnBoard board.now anchor.id) anchors.items) }
+        All (λ anchor. HasItem board.now anchor.id) anchors.items) }
 {
     let ids = ids_of(board, net);
     let numbers = number_groups(alloc, ids, groups)?;

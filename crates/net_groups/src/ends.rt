@@ -1,15 +1,15 @@
 //! The two ends of a track.
 
 ghost use Rattle.std.specs.Prelude.{◌≡◌, ◌≢◌, ◌*ℤ◌, ℤ, pos, MatchOption, Some};
-ghost use Rattle.ratsnest.specs.Reach.{IsInReach};
-ghost use Rattle.net_groups.specs.Anchors.{core_end, copper_end, track_end, IsSpot};
+ghost use Rattle.ratsnest.specs.CoordinateRange.{IsInReach};
+ghost use Rattle.net_groups.specs.Anchors.{core_end, copper_end, track_end, IsAnchorPoint};
 
 use board_items::{Item, Nm, Part, What};
 use geo_seg::{Core, Point};
 
 /// A place on the board, in nanometres.
 #[derive(Clone, Copy, Drop)]
-pub(crate) struct Spot {
+pub(crate) struct AnchorPoint {
     pub(crate) x: Nm,
     pub(crate) y: Nm,
     ghost x_in_range: { IsInReach x },
@@ -51,24 +51,25 @@ fn half(z: i64) -> Option<i64>
 }
 
 /// The point in nanometres. A point between two nanometres is none.
-fn spot_at(p: Point) -> Option<Spot>
+fn anchor_point_at(p: Point) -> Option<AnchorPoint>
     ensures { MatchOption result
-        ((x y : ℤ) → ¬ (IsSpot (Some p) x y)) (λ spot. IsSpot (Some p) spot.x spot.y) }
+        ((x y : ℤ) → ¬ (IsAnchorPoint (Some p) x y)) (λ anchor_point.
+        IsAnchorPoint (Some p) anchor_point.x anchor_point.y) }
 {
     let x = half(p.x)?;
     let y = half(p.y)?;
-    Some(Spot { x, y })
+    Some(AnchorPoint { x, y })
 }
 
 /// The other end of a track; its position is the first.
-pub(crate) fn far_end(item: &Item) -> Option<Spot>
+pub(crate) fn far_end(item: &Item) -> Option<AnchorPoint>
     ensures { MatchOption result
         ((x y : ℤ)
-        → ¬ (IsSpot (track_end item.now.what item.now.copper) x y)) (λ spot.
-        IsSpot (track_end item.now.what item.now.copper) spot.x spot.y) }
+        → ¬ (IsAnchorPoint (track_end item.now.what item.now.copper) x y)) (λ anchor_point.
+        IsAnchorPoint (track_end item.now.what item.now.copper) anchor_point.x anchor_point.y) }
 {
     match track_end(item) {
-        Some(end) => spot_at(end),
+        Some(end) => anchor_point_at(end),
         None => None,
     }
 }

@@ -2,22 +2,22 @@
 
 ghost use Rattle.std.specs.Prelude.{◌≡◌, ◌+◌, ◌<◌, ◌^◌, ℕ, false, IsTrue, [], Option, None, Some, IfOk, IfSome, OnOk, length, slice_index};
 ghost use Rattle.net_groups.specs.Touching.{TouchOn};
-ghost use Rattle.net_groups.specs.Classes.{Rises};
+ghost use Rattle.net_groups.specs.ConnectedClasses.{Rises};
 ghost use Rattle.geo_seg.specs.Boxes.{FitsIndex};
 ghost use Rattle.box_index.specs.Tiles.{margin};
-ghost use Rattle.net_groups.specs.Rooms.{AreRooms, AreRuns, HoldsRooms, IsRoomAt};
+ghost use Rattle.net_groups.specs.ItemBoxes.{AreItemBoxes, AreBoxRuns, HoldsItemBoxes, IsItemBoxAt};
 ghost use Rattle.net_groups.specs.Asking.{is_asked, asked_in, IsVisitedWhole};
 ghost use Rattle.net_groups.specs.Labels.{label_at, IsLabelled, IsVisited, AreLabels};
 
+use crate::item_boxes::Conductors;
 use crate::pairs::is_asked;
-use crate::rooms::Conductors;
 use crate::runs::next_met;
 use crate::spreading::{index_of, spread_out};
 use crate::touch::touch_on;
 use box_index::{Entry, TileIndex};
 use std::alloc::{AllocError, Global};
 
-/// So few rooms are each held against all others, run by run, faster than tiles are made for them.
+/// So few item boxes are each held against all others, run by run, faster than tiles are made for them.
 const FEW: usize = 256;
 
 /// The label of each place, and how many labels there are.
@@ -43,8 +43,8 @@ fn newly_touched(net: &Conductors<'_>, labels: &[Option<u32>], place: usize, oth
     labels[other].is_none() && touch_on(net.board, net.ids[place], net.ids[other])
 }
 
-/// `visit` without an index: the rooms of all places from the first on are gone through.
-fn visit_rooms(
+/// `visit` without an index: the item boxes of all places from the first on are gone through.
+fn visit_item_boxes(
     net: &Conductors<'_>,
     first: usize,
     place: usize,
@@ -53,22 +53,23 @@ fn visit_rooms(
     stack: &mut Vec<usize>,
 ) -> Result<(), AllocError>
     requires rises { Rises net.now.ids.now }
-    requires rooms { AreRooms (TouchOn net.now.board.now) net.now.ids.now net.now.rooms.now }
-    requires runs { AreRuns net.now.rooms.now net.now.runs.now }
+    requires item_boxes { AreItemBoxes (TouchOn net.now.board.now) net.now.ids.now
+        net.now.item_boxes.now }
+    requires runs { AreBoxRuns net.now.item_boxes.now net.now.runs.now }
     requires places { length labels.old ≡ length net.now.ids.now }
     requires place { place < length net.now.ids.now }
     requires first { (i : ℕ) → i < first → IsLabelled labels.old i }
     ensures { OnOk result (IsVisitedWhole (TouchOn net.now.board.now) net.now.ids.now
         place label labels.old labels.new stack.old.items stack.new.items) }
 {
-    let own = net.rooms[place];
-    let mut other = next_met(net.rooms, net.runs, own, first);
+    let own = net.item_boxes[place];
+    let mut other = next_met(net.item_boxes, net.runs, own, first);
     'others: while other < net.ids.len() {
         if newly_touched(net, labels, place, other) {
             labels[other] = Some(label);
             stack.push(other)?;
         }
-        other = next_met(net.rooms, net.runs, own, other + 1);
+        other = next_met(net.item_boxes, net.runs, own, other + 1);
     }
     Ok(())
 }
@@ -114,9 +115,9 @@ fn visit_tile(
     labels: &mut [Option<u32>],
     stack: &mut Vec<usize>,
 ) -> Result<(), AllocError>
-    requires holds { HoldsRooms net.now.rooms.now index.now }
+    requires holds { HoldsItemBoxes net.now.item_boxes.now index.now }
     requires rises { Rises net.now.ids.now }
-    requires many { length net.now.rooms.now ≡ length net.now.ids.now }
+    requires many { length net.now.item_boxes.now ≡ length net.now.ids.now }
     requires places { length labels.old ≡ length net.now.ids.now }
     requires place { own.id < length net.now.ids.now }
     requires own { FitsIndex own.bounds }
@@ -134,7 +135,7 @@ fn visit_tile(
     Ok(())
 }
 
-/// Visits a place in each tile that its room meets.
+/// Visits a place in each tile that its item box meets.
 fn visit_tiles(
     net: &Conductors<'_>,
     index: &TileIndex,
@@ -143,11 +144,12 @@ fn visit_tiles(
     labels: &mut [Option<u32>],
     stack: &mut Vec<usize>,
 ) -> Result<(), AllocError>
-    requires holds { HoldsRooms net.now.rooms.now index.now }
+    requires holds { HoldsItemBoxes net.now.item_boxes.now index.now }
     requires rises { Rises net.now.ids.now }
-    requires rooms { AreRooms (TouchOn net.now.board.now) net.now.ids.now net.now.rooms.now }
+    requires item_boxes { AreItemBoxes (TouchOn net.now.board.now) net.now.ids.now
+        net.now.item_boxes.now }
     requires places { length labels.old ≡ length net.now.ids.now }
-    requires own { IsRoomAt net.now.rooms.now own }
+    requires own { IsItemBoxAt net.now.item_boxes.now own }
     ensures { OnOk result (IsVisitedWhole (TouchOn net.now.board.now) net.now.ids.now
         own.id label labels.old labels.new stack.old.items stack.new.items) }
 {
@@ -171,10 +173,11 @@ fn visit(
     labels: &mut [Option<u32>],
     stack: &mut Vec<usize>,
 ) -> Result<(), AllocError>
-    requires holds { IfSome index (λ held. HoldsRooms net.now.rooms.now held.now) }
+    requires holds { IfSome index (λ held. HoldsItemBoxes net.now.item_boxes.now held.now) }
     requires rises { Rises net.now.ids.now }
-    requires rooms { AreRooms (TouchOn net.now.board.now) net.now.ids.now net.now.rooms.now }
-    requires runs { AreRuns net.now.rooms.now net.now.runs.now }
+    requires item_boxes { AreItemBoxes (TouchOn net.now.board.now) net.now.ids.now
+        net.now.item_boxes.now }
+    requires runs { AreBoxRuns net.now.item_boxes.now net.now.runs.now }
     requires few { length net.now.ids.now < 2 ^ 32 }
     requires places { length labels.old ≡ length net.now.ids.now }
     requires place { place < length net.now.ids.now }
@@ -183,11 +186,11 @@ fn visit(
         place label labels.old labels.new stack.old.items stack.new.items) }
 {
     match index {
-        None => visit_rooms(net, first, place, label, labels, stack),
+        None => visit_item_boxes(net, first, place, label, labels, stack),
         Some(held) => {
             let own = Entry {
                 id: place as u32,
-                bounds: net.rooms[place],
+                bounds: net.item_boxes[place],
             };
             visit_tiles(net, held, own, label, labels, stack)
         }
@@ -203,10 +206,11 @@ fn spread(
     labels: &mut [Option<u32>],
     stack: &mut Vec<usize>,
 ) -> Result<(), AllocError>
-    requires holds { IfSome index (λ held. HoldsRooms net.now.rooms.now held.now) }
+    requires holds { IfSome index (λ held. HoldsItemBoxes net.now.item_boxes.now held.now) }
     requires rises { Rises net.now.ids.now }
-    requires rooms { AreRooms (TouchOn net.now.board.now) net.now.ids.now net.now.rooms.now }
-    requires runs { AreRuns net.now.rooms.now net.now.runs.now }
+    requires item_boxes { AreItemBoxes (TouchOn net.now.board.now) net.now.ids.now
+        net.now.item_boxes.now }
+    requires runs { AreBoxRuns net.now.item_boxes.now net.now.runs.now }
     requires few { length net.now.ids.now < 2 ^ 32 }
     requires labels { AreLabels (TouchOn net.now.board.now) net.now.ids.now start label labels.old }
     requires start { start < length net.now.ids.now }
@@ -230,10 +234,11 @@ fn label_all(
     net: &Conductors<'_>,
     index: Option<&TileIndex>,
 ) -> Result<Labels, AllocError>
-    requires holds { IfSome index (λ held. HoldsRooms net.now.rooms.now held.now) }
+    requires holds { IfSome index (λ held. HoldsItemBoxes net.now.item_boxes.now held.now) }
     requires rises { Rises net.now.ids.now }
-    requires rooms { AreRooms (TouchOn net.now.board.now) net.now.ids.now net.now.rooms.now }
-    requires runs { AreRuns net.now.rooms.now net.now.runs.now }
+    requires item_boxes { AreItemBoxes (TouchOn net.now.board.now) net.now.ids.now
+        net.now.item_boxes.now }
+    requires runs { AreBoxRuns net.now.item_boxes.now net.now.runs.now }
     requires few { length net.now.ids.now < 2 ^ 32 }
     ensures { IfOk result (λ found.
         AreLabels (TouchOn net.now.board.now) net.now.ids.now
@@ -254,8 +259,9 @@ fn label_all(
 /// Labels the places of all groups, in the order of their first places.
 pub(crate) fn label_groups(alloc: Global, net: &Conductors<'_>) -> Result<Labels, AllocError>
     requires rises { Rises net.now.ids.now }
-    requires rooms { AreRooms (TouchOn net.now.board.now) net.now.ids.now net.now.rooms.now }
-    requires runs { AreRuns net.now.rooms.now net.now.runs.now }
+    requires item_boxes { AreItemBoxes (TouchOn net.now.board.now) net.now.ids.now
+        net.now.item_boxes.now }
+    requires runs { AreBoxRuns net.now.item_boxes.now net.now.runs.now }
     requires few { length net.now.ids.now < 2 ^ 32 }
     ensures { IfOk result (λ found.
         AreLabels (TouchOn net.now.board.now) net.now.ids.now
@@ -264,13 +270,13 @@ pub(crate) fn label_groups(alloc: Global, net: &Conductors<'_>) -> Result<Labels
     if net.ids.len() <= FEW {
         return label_all(alloc, net, None);
     }
-    let rooms = spread_out(alloc, net.rooms)?;
-    let index = index_of(alloc, &rooms)?;
+    let item_boxes = spread_out(alloc, net.item_boxes)?;
+    let index = index_of(alloc, &item_boxes)?;
     let none = Vec::new(alloc);
     let wide = Conductors {
         board: net.board,
         ids: net.ids,
-        rooms: &rooms,
+        item_boxes: &item_boxes,
         runs: &none,
     };
     label_all(alloc, &wide, Some(&index))

@@ -4,7 +4,7 @@ ghost use Rattle.std.specs.Prelude.{◌≡◌, ℕ, List, All};
 ghost use Rattle.board_items.specs.declared.item.Item.{Item};
 ghost use Rattle.board_items.specs.Boards.{PlainBoard, IsSound};
 ghost use Rattle.ratsnest.specs.declared.anchor.Anchor.{Anchor};
-ghost use Rattle.net_groups.specs.Groups.{AreGroupsOf, items_of};
+ghost use Rattle.net_groups.specs.NetGroups.{AreGroupsOf, items_of};
 ghost use Rattle.net_groups.specs.Anchors.{AreAnchorsOf};
 ghost use Rattle.net_groups.specs.NetParts.{PlainNetPart, IsNetPart, AreParts, IsWritable};
 

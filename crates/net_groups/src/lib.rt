@@ -1,17 +1,17 @@
 //! The groups of a net: its items whose copper touches, joined by chains, and the anchors of those items, where links may end.
-//! Which items are near each other is told by their rooms.
+//! Which items are near each other is told by their item boxes.
 #![tactic(auto)]
 
 mod anchors_of;
 mod ends;
 mod gather;
 mod group;
+mod item_boxes;
 mod labels;
 mod laws;
 mod numbering;
 mod of_net;
 mod pairs;
-mod rooms;
 mod runs;
 mod spreading;
 mod stretch;

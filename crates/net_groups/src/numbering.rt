@@ -2,7 +2,7 @@
 
 ghost use Rattle.std.specs.Prelude.{◌≡◌, ◌<◌, ◌^◌, All, Contains, IfOk, length, slice_index};
 ghost use Rattle.std.specs.List.{AllPairs};
-ghost use Rattle.net_groups.specs.Classes.{Rises, AreDisjoint};
+ghost use Rattle.net_groups.specs.ConnectedClasses.{Rises, AreDisjoint};
 ghost use Rattle.net_groups.specs.Numbering.{number_of, IsEntered, AreNumbered};
 
 use crate::group::Group;

@@ -1,21 +1,21 @@
-//! Rooms in runs, each with a box around it: those of a run that is far are passed over together.
+//! Item boxes in runs, each with a box around it: those of a run that is far are passed over together.
 
 ghost use Rattle.std.specs.Prelude.{◌≡◌, ◌*◌, ◌<◌, ◌≤◌, ℕ, IsTrue, IfOk, length, slice_index_or};
 ghost use Rattle.geo_seg.specs.declared.boxes.Bounds.{Bounds};
 ghost use Rattle.geo_seg.specs.Boxes.{IsPartOf, BoxesMeet};
-ghost use Rattle.net_groups.specs.Rooms.{AreRuns};
+ghost use Rattle.net_groups.specs.ItemBoxes.{AreBoxRuns};
 
 use box_index::do_boxes_meet;
 use geo_seg::Bounds;
 use std::alloc::{AllocError, Global};
 
-/// How many rooms are in a run.
+/// How many item boxes are in a run.
 const RUN: usize = 8;
 
-/// A box around the rooms from one place to another.
-fn run_of(rooms: &[Bounds], low: usize, high: usize) -> Bounds
-    ensures { (i : ℕ) (d : Bounds) → low ≤ i → i < high → i < length rooms.now
-        → IsPartOf (slice_index_or rooms.now i d) result }
+/// A box around the item boxes from one place to another.
+fn run_of(item_boxes: &[Bounds], low: usize, high: usize) -> Bounds
+    ensures { (i : ℕ) (d : Bounds) → low ≤ i → i < high → i < length item_boxes.now
+        → IsPartOf (slice_index_or item_boxes.now i d) result }
 {
     let mut run = Bounds {
         left: 1_500_000_000,
@@ -23,29 +23,29 @@ fn run_of(rooms: &[Bounds], low: usize, high: usize) -> Bounds
         right: -1_500_000_000,
         bottom: -1_500_000_000,
     };
-    for place in low..high.min(rooms.len()) {
-        run = run.union(rooms[place]);
+    for place in low..high.min(item_boxes.len()) {
+        run = run.union(item_boxes[place]);
     }
     run
 }
 
-/// The boxes around the runs of these rooms.
-pub(crate) fn runs_of(alloc: Global, rooms: &[Bounds]) -> Result<Vec<Bounds>, AllocError>
-    ensures { IfOk result (λ runs. AreRuns rooms.now runs.items) }
+/// The boxes around the runs of these item boxes.
+pub(crate) fn runs_of(alloc: Global, item_boxes: &[Bounds]) -> Result<Vec<Bounds>, AllocError>
+    ensures { IfOk result (λ runs. AreBoxRuns item_boxes.now runs.items) }
 {
-    let count = rooms.len() / RUN + 1;
+    let count = item_boxes.len() / RUN + 1;
     let mut runs = Vec::with_capacity(alloc, count)?;
     for run in 0..count {
-        runs.push(run_of(rooms, run * RUN, run * RUN + RUN))?;
+        runs.push(run_of(item_boxes, run * RUN, run * RUN + RUN))?;
     }
     Ok(runs)
 }
 
 /// Whether the boxes share no point.
-fn is_far(own: Bounds, room: Bounds) -> bool
-    ensures { IsTrue result → ¬ (BoxesMeet own room) }
+fn is_far(own: Bounds, item_box: Bounds) -> bool
+    ensures { IsTrue result → ¬ (BoxesMeet own item_box) }
 {
-    !do_boxes_meet(own, room)
+    !do_boxes_meet(own, item_box)
 }
 
 /// Whether there is a box around the run, and it is far from this one.
@@ -65,18 +65,18 @@ fn begins_clear(runs: &[Bounds], place: usize, own: Bounds) -> bool
     run * RUN == place && is_clear(runs, run, own)
 }
 
-/// The first place from the one that is given on whose room meets this one. Where there is none, all later rooms are passed.
-pub(crate) fn next_met(rooms: &[Bounds], runs: &[Bounds], own: Bounds, from: usize) -> usize
-    requires { AreRuns rooms.now runs.now }
+/// The first place from the one that is given on whose item box meets this one. Where there is none, all later item boxes are passed.
+pub(crate) fn next_met(item_boxes: &[Bounds], runs: &[Bounds], own: Bounds, from: usize) -> usize
+    requires { AreBoxRuns item_boxes.now runs.now }
     ensures from { from ≤ result }
-    ensures apart { (i : ℕ) (d : Bounds) → from ≤ i → i < result → i < length rooms.now
-        → ¬ (BoxesMeet own (slice_index_or rooms.now i d)) }
+    ensures apart { (i : ℕ) (d : Bounds) → from ≤ i → i < result → i < length item_boxes.now
+        → ¬ (BoxesMeet own (slice_index_or item_boxes.now i d)) }
 {
     let mut place = from;
-    'places: while place < rooms.len() {
+    'places: while place < item_boxes.len() {
         if begins_clear(runs, place, own) {
             place += RUN;
-        } else if is_far(own, rooms[place]) {
+        } else if is_far(own, item_boxes[place]) {
             place += 1;
         } else {
             return place;

@@ -1,8 +1,8 @@
-//! How rooms are spread over tiles.
+//! How item boxes are spread over tiles.
 
 ghost use Rattle.std.specs.Prelude.{◌≤ℤ◌, pos, neg_ℤ};
 
-/// How rooms are moved and then stretched.
+/// How item boxes are moved and then stretched.
 #[derive(Clone, Copy)]
 pub(crate) struct Stretch {
     pub(crate) x: i64,

@@ -3,7 +3,7 @@ use Rattle.std.proofs.Common.{◌≡◌, ◌∙◌, refl, ap, sym, List, ◌∷�
 use Rattle.sexpr_read.specs.Tree.{Tree}
 use Rattle.board_errors.specs.declared.errors.BoardError.{BoardError}
 use Rattle.part_read.specs.declared.figures.Drawing.{Drawing}
-use Rattle.list_read.specs.Answers.{◌>>=◌}
+use Rattle.list_read.specs.FirstRefusals.{◌>>=◌}
 use Rattle.part_read.specs.Lists.{before}
 use Rattle.pad_read.specs.CustomPads.{primitive_kind, primitive_by, primitives_among}
 

@@ -10,7 +10,7 @@ use Rattle.board_items.specs.declared.item.What.{What}
 use Rattle.board_items.specs.declared.item.What.TheVariants.{Pad}
 use Rattle.board_items.specs.declared.item.Item.{Item}
 use Rattle.board_items.specs.Measures.{HasLengths}
-use Rattle.part_read.specs.declared.numbers.Spot.{Spot}
+use Rattle.part_read.specs.declared.numbers.RawPoint.{RawPoint}
 use Rattle.plain_types.proofs.LengthTests.{length_in_range}
 use Rattle.part_read.specs.PlainItems.{unmeasured}
 use Rattle.pad_read.specs.declared.sizes.Sizes.{Sizes}
@@ -54,7 +54,7 @@ module _ (label : Label) (copper : List Part) (hole : Option Hole) where
     what_in_range = m;
   }
 
-  from_what : (what : What) (x y : ℤ) (k : IsLengthIfSome label.local) (m : HasLengths what) (at : Spot) (fits : local_fits label.local ≡ true) → Pad label.number label.reference ≡ what → x ≡ at.x → y ≡ at.y
+  from_what : (what : What) (x y : ℤ) (k : IsLengthIfSome label.local) (m : HasLengths what) (at : RawPoint) (fits : local_fits label.local ≡ true) → Pad label.number label.reference ≡ what → x ≡ at.x → y ≡ at.y
       → row what x y k m ≡ pad_item label at copper hole fits
   unfolding row
   from_what what x y k m at fits w e f =
@@ -65,7 +65,7 @@ module _ (label : Label) (copper : List Part) (hole : Option Hole) where
       ∙ ap (λ (l : HasLengths (Pad label.number label.reference)). row (Pad label.number label.reference) at.x at.y (local_in_range label.local fits) l)
       (lengths_prop (Pad label.number label.reference) m (unmeasured (Pad label.number label.reference) refl))) m
 
-  pub pad_is : (what : What) (x y : ℤ) (k : IsLengthIfSome label.local) (m : HasLengths what) (at : Spot) (fits : local_fits label.local ≡ true) → what ≡ Pad label.number label.reference → x ≡ at.x → y ≡ at.y
+  pub pad_is : (what : What) (x y : ℤ) (k : IsLengthIfSome label.local) (m : HasLengths what) (at : RawPoint) (fits : local_fits label.local ≡ true) → what ≡ Pad label.number label.reference → x ≡ at.x → y ≡ at.y
       → (let item : Item = record { name = label.name; unit = label.unit; net = label.net; x = x; y = y; copper = copper; hole = hole; local = label.local; what = what; local_in_range = k; what_in_range = m } in item)
       ≡ pad_item label at copper hole fits
   unfolding row

@@ -10,20 +10,20 @@ use Rattle.board_items.specs.declared.parts.Part.{Part}
 use Rattle.board_items.specs.declared.item.Hole.{Hole}
 use Rattle.board_items.specs.declared.item.Item.{Item}
 use Rattle.copper_layers.specs.Layers.{is_within}
-use Rattle.board_items.specs.Parts.{hole_parts}
+use Rattle.board_items.specs.ItemParts.{hole_parts}
 use Rattle.board_items.specs.Boards.{PlainBoard, name_of}
 use Rattle.copper_layers.proofs.LayerLemmas.{within_layers}
-use Rattle.part_read.specs.declared.numbers.Spot.{Spot}
-use Rattle.part_read.specs.declared.stances.Stance.{Stance}
+use Rattle.part_read.specs.declared.numbers.RawPoint.{RawPoint}
+use Rattle.part_read.specs.declared.placements.Placement.{Placement}
 use Rattle.part_read.specs.declared.radii.Radius.{Radius}
 use Rattle.part_read.specs.declared.figures.Drawing.{Drawing}
 use Rattle.board_errors.specs.declared.errors.BoardError.TheVariants.{OutOfBoard}
-use Rattle.list_read.specs.Answers.{needed}
-use Rattle.list_read.specs.Heads.{place}
-use Rattle.list_read.specs.Elements.{element}
+use Rattle.list_read.specs.FirstRefusals.{needed}
+use Rattle.list_read.specs.ListHeads.{place}
+use Rattle.list_read.specs.NamedElements.{element}
 use Rattle.part_read.specs.There.{both}
-use Rattle.part_read.specs.Elements.{atom_of, in_needed}
-use Rattle.part_read.specs.LayersOf.{layers_named}
+use Rattle.part_read.specs.ElementResults.{atom_of, in_needed}
+use Rattle.part_read.specs.BoardLayers.{layers_named}
 use Rattle.part_read.specs.NetsOf.{net_of}
 use Rattle.plain_types.specs.Lengths.{is_length}
 use Rattle.part_read.specs.OnBoard.{tested, fits_board}
@@ -34,9 +34,9 @@ use Rattle.pad_read.specs.declared.pads.Frame.{Frame}
 use Rattle.pad_read.specs.declared.forms.Form.{Form}
 use Rattle.pad_read.specs.declared.labels.Label.{Label}
 use Rattle.pad_read.specs.declared.head.Head.{Head}
-use Rattle.pad_read.specs.Postures.{clearance_of}
+use Rattle.pad_read.specs.LocalPlacements.{clearance_of}
 use Rattle.pad_read.specs.PadSizes.{least_of}
-use Rattle.pad_read.specs.PadShapes.{oval_cushion, turned_cushion, cushion_at}
+use Rattle.pad_read.specs.PadShapes.{oval_rounded_rect, turned_rounded_rect, rounded_rect_at}
 use Rattle.pad_read.specs.PadFrames.{hole_sizes, is_plated, frame_of}
 use Rattle.pad_read.specs.CustomPads.{primitives_fit}
 use Rattle.pad_read.specs.PadOf.{all_drawn, with_part, copper_of, has_copper, middle_of, frame_copper, hole_with, hole_by, hole_of, frame_hole, local_fits, frame_fits, pad_item, pad_with, placed, form_of, label_of, pad_of}
@@ -79,10 +79,10 @@ with_on copper None qs h k = tt
 with_on copper (Some ps) None h k = tt
 with_on copper (Some ps) (Some qs) h k = all_both copper ps qs h k
 
-drawn_on : (layers copper : LayerSet) (stance : Stance) (ds : List Drawing) → is_within layers copper ≡ true → AreOnIf copper (all_drawn layers stance ds)
-drawn_on layers copper stance [] h = refl
-drawn_on layers copper stance (d ∷ ds) h =
-    with_on copper _ _ (around_on layers copper (radius_of (radius_with d.width d.figure)) (cores_of stance d.filled d.figure) h) (drawn_on layers copper stance ds h)
+drawn_on : (layers copper : LayerSet) (placement : Placement) (ds : List Drawing) → is_within layers copper ≡ true → AreOnIf copper (all_drawn layers placement ds)
+drawn_on layers copper placement [] h = refl
+drawn_on layers copper placement (d ∷ ds) h =
+    with_on copper _ _ (around_on layers copper (radius_of (radius_with d.width d.figure)) (cores_of placement d.filled d.figure) h) (drawn_on layers copper placement ds h)
 
 part_on : (layers copper : LayerSet) (shape : Option Shape) (ps : Option (List Part)) → is_within layers copper ≡ true → AreOnIf copper ps → AreOnIf copper (both (with_part layers) shape ps)
 part_on layers copper None ps h k = tt
@@ -116,13 +116,13 @@ shaped_on : (copper : LayerSet) (plated : Bool) (s : Sizes) (shape : Option Shap
 shaped_on copper plated s None = tt
 shaped_on copper plated s (Some shape) = tested_on copper plated s shape
 
-hole_on : (copper : LayerSet) (at : Spot) (quarter : ℕ) (plated : Bool) (s : Option Sizes) → HoleOnIf copper (hole_of copper at quarter plated s)
+hole_on : (copper : LayerSet) (at : RawPoint) (quarter : ℕ) (plated : Bool) (s : Option Sizes) → HoleOnIf copper (hole_of copper at quarter plated s)
 hole_on copper at quarter plated None = refl
-hole_on copper at quarter plated (Some s) = shaped_on copper plated s (cushion_at at (turned_cushion quarter (oval_cushion s)))
+hole_on copper at quarter plated (Some s) = shaped_on copper plated s (rounded_rect_at at (turned_rounded_rect quarter (oval_rounded_rect s)))
 
 -- ---- the item
 
-item_ready : (board : PlainBoard) (label : Label) (at : Spot) (parts : List Part) (hole : Option Hole) (fits : local_fits label.local ≡ true)
+item_ready : (board : PlainBoard) (label : Label) (at : RawPoint) (parts : List Part) (hole : Option Hole) (fits : local_fits label.local ≡ true)
     → fits_board at ≡ true → is_some (name_of board label.net) ≡ true → AreOn board.copper parts → AreOn board.copper (hole_parts hole)
     → IsReady board label.unit (pad_item label at parts hole fits)
 item_ready board label at parts hole fits near declared on drilled = record {
@@ -130,12 +130,12 @@ item_ready board label at parts hole fits near declared on drilled = record {
   of_unit = refl;
 }
 
-tested_ready : (board : PlainBoard) (label : Label) (at : Spot) (parts : List Part) (hole : Option Hole) (b : Bool) (make : b ≡ true → Item) (item : Item)
+tested_ready : (board : PlainBoard) (label : Label) (at : RawPoint) (parts : List Part) (hole : Option Hole) (b : Bool) (make : b ≡ true → Item) (item : Item)
     → ((h : b ≡ true) → IsReady board label.unit (make h)) → tested b make ≡ Some item → IsReady board label.unit item
 tested_ready board label at parts hole true make item ready h = let same : make refl ≡ item = cc in subst (λ (i : Item). IsReady board label.unit i) same (ready refl)
 tested_ready board label at parts hole false make item ready h = absurd cc
 
-with_ready : (board : PlainBoard) (label : Label) (at : Spot) (parts : Option (List Part)) (hole : Option (Option Hole)) (item : Item)
+with_ready : (board : PlainBoard) (label : Label) (at : RawPoint) (parts : Option (List Part)) (hole : Option (Option Hole)) (item : Item)
     → fits_board at ≡ true → is_some (name_of board label.net) ≡ true → AreOnIf board.copper parts → HoleOnIf board.copper hole
     → pad_with label at parts hole ≡ Some item → IsReady board label.unit item
 with_ready board label at None hole item near declared on drilled h = absurd cc
@@ -158,7 +158,7 @@ placed_ready board label layers f form item declared on h = placed_by board labe
 -- ---- the whole
 
 pub pad_by : (board : PlainBoard) (unit : ℕ) (head : Head) (tree number : Tree) (frame : Frame) (layers : LayerSet) (form : Form) (net : ℕ) (own : ℤ) (label : Label)
-    → atom_of 1 tree ≡ Ok number → frame_of head.stance tree ≡ Ok frame → in_needed (layers_named board.copper) tree (element (codes "layers") tree) ≡ Ok layers
+    → atom_of 1 tree ≡ Ok number → frame_of head.placement tree ≡ Ok frame → in_needed (layers_named board.copper) tree (element (codes "layers") tree) ≡ Ok layers
     → form_of frame.word frame.sizes tree ≡ Ok form → net_of board tree ≡ Ok net → clearance_of tree ≡ Ok own → label_of unit net own head number tree ≡ label
     → pad_of board unit head tree ≡ needed (OutOfBoard (place tree)) (placed board.copper layers label frame form)
 unfolding pad_of

@@ -3,13 +3,13 @@ use Rattle.std.proofs.Common.{◌≡◌, ◌∙◌, refl, ap, sym, ℕ, ℤ, ◌
 use Rattle.std.proofs.lemmas.Bool.{ltb-false}
 use Rattle.exact_dec.specs.declared.DecError.{DecError}
 use Rattle.exact_dec.specs.declared.DecError.TheVariants.{TooWide}
-use Rattle.exact_dec.specs.Reading.{is_long, is_far, is_no_half}
+use Rattle.exact_dec.specs.DecimalAnswers.{is_long, is_far, is_no_half}
 use Rattle.exact_dec.specs.Decimal.{Spelling, times, value}
 use Rattle.exact_dec.specs.Computed.{near, ratio_near_answer, answer_of, parts_of}
 use Rattle.board_errors.specs.declared.errors.BoardError.{BoardError}
 use Rattle.sexpr_read.specs.Tree.{Tree, content}
-use Rattle.list_read.specs.Answers.{◌>>=◌, needed}
-use Rattle.part_read.specs.Numbers.{read_as}
+use Rattle.list_read.specs.FirstRefusals.{◌>>=◌, needed}
+use Rattle.part_read.specs.BoardNumbers.{read_as}
 use Rattle.pad_read.specs.PadShapes.{share_of}
 
 by_tests : (long far beyond : Bool) (n m : ℤ) → cond {A = Result ℤ DecError} (long || (far || beyond)) (Err TooWide) (Ok n) ≡ Ok m → far ≡ ltb 1000000000000 (unsigned_abs n) → unsigned_abs m ≤ 1000000000000

@@ -7,30 +7,30 @@ use Rattle.board_errors.specs.declared.errors.BoardError.TheVariants.{PadShape, 
 use Rattle.part_read.specs.declared.drawings.GraphicKind.{GraphicKind}
 use Rattle.part_read.specs.declared.drawings.GraphicKind.TheVariants.{Line, Rect, Circle, Outline}
 use Rattle.part_read.specs.declared.figures.Drawing.{Drawing}
-use Rattle.list_read.specs.Answers.{◌>>=◌, check}
-use Rattle.list_read.specs.Heads.{place, is_text, has_head}
-use Rattle.list_read.specs.Elements.{element}
+use Rattle.list_read.specs.FirstRefusals.{◌>>=◌, check}
+use Rattle.list_read.specs.ListHeads.{place, is_text, has_head}
+use Rattle.list_read.specs.NamedElements.{element}
 use Rattle.plain_types.specs.Lengths.{is_length}
-use Rattle.part_read.specs.Elements.{given_or, atom_of}
+use Rattle.part_read.specs.ElementResults.{given_or, atom_of}
 use Rattle.part_read.specs.Figures.{is_ring, radius_with}
 use Rattle.part_read.specs.Drawings.{drawing_of}
 use Rattle.pad_read.specs.declared.sizes.Sizes.{Sizes}
-use Rattle.pad_read.specs.declared.sizes.Cushion.{Cushion}
-use Rattle.pad_read.specs.PadShapes.{circle_cushion, rect_cushion}
+use Rattle.pad_read.specs.declared.sizes.RoundedRect.{RoundedRect}
+use Rattle.pad_read.specs.PadShapes.{circle_rounded_rect, rect_rounded_rect}
 
 -- ---- the anchor: a disc or a rectangle
 
 -- the anchor of this word; another word is refused at the pad
-abbrev pub anchor_by_word : Tree → Sizes → Tree → Result Cushion BoardError
+abbrev pub anchor_by_word : Tree → Sizes → Tree → Result RoundedRect BoardError
 anchor_by_word pad s atom =
-    if is_text atom (codes "circle") then Ok (circle_cushion s)
-    else if is_text atom (codes "rect") then Ok (rect_cushion s)
+    if is_text atom (codes "circle") then Ok (circle_rounded_rect s)
+    else if is_text atom (codes "rect") then Ok (rect_rounded_rect s)
     else Err (PadShape (place pad))
 
 -- the anchor that (options (anchor WORD)) names, a disc where it is missing
-unfoldable pub anchor_of : Sizes → Tree → Result Cushion BoardError
+unfoldable pub anchor_of : Sizes → Tree → Result RoundedRect BoardError
 anchor_of s pad =
-    given_or (circle_cushion s) (λ list. atom_of 1 list >>= anchor_by_word pad s) (option_and_then (element (codes "anchor")) (element (codes "options") pad))
+    given_or (circle_rounded_rect s) (λ list. atom_of 1 list >>= anchor_by_word pad s) (option_and_then (element (codes "anchor")) (element (codes "options") pad))
 
 -- ---- the primitives
 

@@ -1,8 +1,8 @@
 pub mod Halves
-pub mod Postures
+pub mod LocalPlacements
 pub mod PadSizes
 pub mod PadShapes
 pub mod CustomPads
 pub mod PadFrames
 pub mod PadOf
-pub mod Taking
+pub mod PrimitiveSteps

@@ -5,13 +5,13 @@ use Rattle.std.specs.Ordering.{int_eq}
 use Rattle.sexpr_read.specs.Tree.{Tree}
 use Rattle.board_errors.specs.declared.errors.BoardError.{BoardError}
 use Rattle.board_errors.specs.declared.errors.BoardError.TheVariants.{Missing, Turned, PadShape}
-use Rattle.part_read.specs.declared.numbers.Spot.{Spot}
-use Rattle.part_read.specs.declared.stances.Stance.{Stance}
-use Rattle.list_read.specs.Answers.{◌>>=◌, needed, check}
-use Rattle.list_read.specs.Heads.{place, is_text}
-use Rattle.list_read.specs.Elements.{element}
-use Rattle.part_read.specs.Elements.{atom_of}
-use Rattle.part_read.specs.Stances.{IsSpotWithin, IsReadSpot, stood}
+use Rattle.part_read.specs.declared.numbers.RawPoint.{RawPoint}
+use Rattle.part_read.specs.declared.placements.Placement.{Placement}
+use Rattle.list_read.specs.FirstRefusals.{◌>>=◌, needed, check}
+use Rattle.list_read.specs.ListHeads.{place, is_text}
+use Rattle.list_read.specs.NamedElements.{element}
+use Rattle.part_read.specs.ElementResults.{atom_of}
+use Rattle.part_read.specs.Placements.{IsRawPointWithin, IsReadRawPoint, stood}
 use Rattle.pad_read.specs.declared.sizes.Sizes.{Sizes}
 use Rattle.pad_read.specs.declared.sizes.Drilling.{Drilling}
 use Rattle.pad_read.specs.declared.pads.PadType.{PadType}
@@ -19,7 +19,7 @@ use Rattle.pad_read.specs.declared.pads.PadType.TheVariants.{ThruHole, Smd, Conn
 use Rattle.pad_read.specs.declared.pads.PadWord.{PadWord}
 use Rattle.pad_read.specs.declared.pads.PadWord.TheVariants.{Circle, Rect, Oval, RoundRect, Custom}
 use Rattle.pad_read.specs.declared.pads.Frame.{Frame}
-use Rattle.pad_read.specs.Postures.{posture_of, quarters_of}
+use Rattle.pad_read.specs.LocalPlacements.{local_placement_of, quarters_of}
 use Rattle.pad_read.specs.PadSizes.{AreRead, sizes_of, drilling_of}
 
 -- ---- the words at its front
@@ -90,7 +90,7 @@ is_circle_word Circle = true
 is_circle_word word = false
 
 -- nothing shows how the pad is turned: it is a circle, its copper is not moved, and its hole is round
-abbrev pub is_turning : PadWord → Spot → Option Sizes → Bool
+abbrev pub is_turning : PadWord → RawPoint → Option Sizes → Bool
 is_turning word offset hole = is_circle_word word && (int_eq offset.x (pos 0) && int_eq offset.y (pos 0)) && is_round_hole hole
 
 -- the quarter turns that an angle is; where it is none of them, 0 if nothing shows it
@@ -105,25 +105,25 @@ quarter_of word drilling type angle = or_unturned (is_turning word drilling.offs
 -- ---- the whole
 
 -- the frame of a pad in a footprint that stands so; its position is relative to that of the footprint, and turned with it
-unfoldable pub frame_of : Stance → Tree → Result Frame BoardError
-frame_of stance tree = do
+unfoldable pub frame_of : Placement → Tree → Result Frame BoardError
+frame_of placement tree = do
   type ← type_of tree
   word ← word_of tree
-  posture ← posture_of tree
+  local_placement ← local_placement_of tree
   sizes ← sizes_of tree
   drilling ← drilling_of tree
-  quarter ← needed (Turned (place tree)) (quarter_of word drilling type posture.angle)
-  Ok (record { pad_type = type; word = word; at = stood stance posture.at; quarter = quarter; sizes = sizes; drilling = drilling })
+  quarter ← needed (Turned (place tree)) (quarter_of word drilling type local_placement.angle)
+  Ok (record { pad_type = type; word = word; at = stood placement local_placement.at; quarter = quarter; sizes = sizes; drilling = drilling })
 
--- the position of a pad on the board, or off it: no further from 0 than the sum of two spots that are read, those of its footprint and
+-- the position of a pad on the board, or off it: no further from 0 than the sum of two raw points that are read, those of its footprint and
 -- its own
-abbrev pub IsPadSpot : Spot → Type 0
-IsPadSpot s = IsSpotWithin 2000000000000 s
+abbrev pub IsPadRawPoint : RawPoint → Type 0
+IsPadRawPoint s = IsRawPointWithin 2000000000000 s
 
 -- the frame is made of what was read, so its sums are in range
 pub record IsFramed (f : Frame) : Type 0 where
   pub quarter : f.quarter < 4
-  pub at : IsPadSpot f.at
+  pub at : IsPadRawPoint f.at
   pub sizes : AreRead f.sizes
   pub drilled : IfSome f.drilling.sizes AreRead
-  pub offset : IsReadSpot f.drilling.offset
+  pub offset : IsReadRawPoint f.drilling.offset

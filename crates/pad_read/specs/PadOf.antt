@@ -13,23 +13,23 @@ use Rattle.board_items.specs.declared.item.Hole.{Hole}
 use Rattle.board_items.specs.declared.item.What.TheVariants.{Pad}
 use Rattle.board_items.specs.declared.item.Item.{Item}
 use Rattle.board_items.specs.Boards.{PlainBoard}
-use Rattle.part_read.specs.declared.numbers.Spot.{Spot}
-use Rattle.part_read.specs.declared.stances.Stance.{Stance}
+use Rattle.part_read.specs.declared.numbers.RawPoint.{RawPoint}
+use Rattle.part_read.specs.declared.placements.Placement.{Placement}
 use Rattle.part_read.specs.declared.figures.Drawing.{Drawing}
-use Rattle.list_read.specs.Answers.{◌>>=◌, needed}
-use Rattle.list_read.specs.Heads.{place, text_of}
-use Rattle.list_read.specs.Elements.{element}
+use Rattle.list_read.specs.FirstRefusals.{◌>>=◌, needed}
+use Rattle.list_read.specs.ListHeads.{place, text_of}
+use Rattle.list_read.specs.NamedElements.{element}
 use Rattle.part_read.specs.There.{both}
-use Rattle.part_read.specs.Elements.{atom_of, in_needed, name_in}
+use Rattle.part_read.specs.ElementResults.{atom_of, in_needed, name_in}
 use Rattle.plain_types.proofs.LengthTests.{length_in_range}
 use Rattle.part_read.specs.OnBoard.{tested, fits_board}
-use Rattle.part_read.specs.LayersOf.{layers_named}
+use Rattle.part_read.specs.BoardLayers.{layers_named}
 use Rattle.part_read.specs.NetsOf.{net_of}
-use Rattle.part_read.specs.Stances.{stood}
+use Rattle.part_read.specs.Placements.{stood}
 use Rattle.part_read.specs.PlainItems.{unmeasured}
 use Rattle.part_read.specs.Figures.{drawn}
 use Rattle.pad_read.specs.declared.sizes.Sizes.{Sizes}
-use Rattle.pad_read.specs.declared.sizes.Cushion.{Cushion}
+use Rattle.pad_read.specs.declared.sizes.RoundedRect.{RoundedRect}
 use Rattle.pad_read.specs.declared.pads.PadType.{PadType}
 use Rattle.pad_read.specs.declared.pads.PadType.TheVariants.{NpThruHole}
 use Rattle.pad_read.specs.declared.pads.PadWord.{PadWord}
@@ -38,44 +38,44 @@ use Rattle.pad_read.specs.declared.pads.Frame.{Frame}
 use Rattle.pad_read.specs.declared.forms.Form.{Form}
 use Rattle.pad_read.specs.declared.labels.Label.{Label}
 use Rattle.pad_read.specs.declared.head.Head.{Head}
-use Rattle.pad_read.specs.Postures.{clearance_of}
+use Rattle.pad_read.specs.LocalPlacements.{clearance_of}
 use Rattle.pad_read.specs.PadSizes.{least_of, are_equal}
-use Rattle.pad_read.specs.PadShapes.{circle_cushion, rect_cushion, oval_cushion, round_cushion, round_radius, turned_cushion, cushion_at}
+use Rattle.pad_read.specs.PadShapes.{circle_rounded_rect, rect_rounded_rect, oval_rounded_rect, round_rounded_rect, round_radius, turned_rounded_rect, rounded_rect_at}
 use Rattle.pad_read.specs.CustomPads.{anchor_of, primitives_of, primitives_fit}
 use Rattle.pad_read.specs.PadFrames.{hole_sizes, is_plated, frame_of}
 
 -- ---- its form: what is all within a radius of a box, and what else is drawn
 
--- the form that is a cushion alone
-abbrev pub without_primitives : Cushion → Form
-without_primitives cushion = record { cushion = cushion; primitives = [] }
+-- the form that is a rounded rectangle alone
+abbrev pub without_primitives : RoundedRect → Form
+without_primitives rounded_rect = record { rounded_rect = rounded_rect; primitives = [] }
 
 -- the form of a pad of this shape and these sizes
 abbrev pub form_of : PadWord → Sizes → Tree → Result Form BoardError
-form_of Circle s tree = Ok (without_primitives (circle_cushion s))
-form_of Rect s tree = Ok (without_primitives (rect_cushion s))
-form_of Oval s tree = Ok (without_primitives (oval_cushion s))
-form_of RoundRect s tree = round_radius s tree >>= λ r. Ok (without_primitives (round_cushion s r))
+form_of Circle s tree = Ok (without_primitives (circle_rounded_rect s))
+form_of Rect s tree = Ok (without_primitives (rect_rounded_rect s))
+form_of Oval s tree = Ok (without_primitives (oval_rounded_rect s))
+form_of RoundRect s tree = round_radius s tree >>= λ r. Ok (without_primitives (round_rounded_rect s r))
 form_of Custom s tree = do
   anchor ← anchor_of s tree
   primitives ← primitives_of tree
-  Ok (record { cushion = anchor; primitives = primitives })
+  Ok (record { rounded_rect = anchor; primitives = primitives })
 
 -- ---- its copper, if it lies on the board
 
 -- the parts of all drawings, in order, if they all lie on the board
-abbrev pub all_drawn : LayerSet → Stance → List Drawing → Option (List Part)
-all_drawn layers stance [] = Some []
-all_drawn layers stance (d ∷ ds) = both (λ ps qs. ps ++ qs) (drawn layers stance d) (all_drawn layers stance ds)
+abbrev pub all_drawn : LayerSet → Placement → List Drawing → Option (List Part)
+all_drawn layers placement [] = Some []
+all_drawn layers placement (d ∷ ds) = both (λ ps qs. ps ++ qs) (drawn layers placement d) (all_drawn layers placement ds)
 
 -- the parts behind the one of this shape
 abbrev pub with_part : LayerSet → Shape → List Part → List Part
 with_part layers shape parts = record { layers = layers; shape = shape } ∷ parts
 
--- what stands so has its cushion in the middle, and the primitives around it
-abbrev pub copper_of : LayerSet → Stance → Form → Option (List Part)
-copper_of layers stance form =
-    both (with_part layers) (cushion_at stance.at (turned_cushion stance.quarter form.cushion)) (all_drawn layers stance form.primitives)
+-- what stands so has its rounded rectangle in the middle, and the primitives around it
+abbrev pub copper_of : LayerSet → Placement → Form → Option (List Part)
+copper_of layers placement form =
+    both (with_part layers) (rounded_rect_at placement.at (turned_rounded_rect placement.quarter form.rounded_rect)) (all_drawn layers placement form.primitives)
 
 -- the pad is as large as its hole
 abbrev pub equals_drill : Sizes → Option Sizes → Bool
@@ -88,7 +88,7 @@ has_copper NpThruHole layers s drill = not (layers.bits == 0) && not (equals_dri
 has_copper type layers s drill = not (layers.bits == 0)
 
 -- the middle of the copper: the offset is turned with the pad
-abbrev pub middle_of : Frame → Stance
+abbrev pub middle_of : Frame → Placement
 middle_of f = record { quarter = f.quarter; at = stood (record { quarter = f.quarter; at = f.at }) f.drilling.offset }
 
 -- the copper of a pad on these layers, if it lies on the board
@@ -106,10 +106,10 @@ abbrev pub hole_by : LayerSet → Bool → Sizes → Shape → Option Hole
 hole_by layers plated s shape = tested (is_length (least_of s)) (hole_with layers plated s shape)
 
 -- the hole of these sizes, if there is one: round or oval, through all copper layers
-abbrev pub hole_of : LayerSet → Spot → ℕ → Bool → Option Sizes → Option (Option Hole)
+abbrev pub hole_of : LayerSet → RawPoint → ℕ → Bool → Option Sizes → Option (Option Hole)
 hole_of copper at quarter plated None = Some None
 hole_of copper at quarter plated (Some s) =
-    option_map (λ hole. Some hole) (option_and_then (hole_by copper plated s) (cushion_at at (turned_cushion quarter (oval_cushion s))))
+    option_map (λ hole. Some hole) (option_and_then (hole_by copper plated s) (rounded_rect_at at (turned_rounded_rect quarter (oval_rounded_rect s))))
 
 -- the hole of a pad stands at its position, and is turned with it
 abbrev pub frame_hole : LayerSet → Frame → Option (Option Hole)
@@ -155,8 +155,8 @@ local_in_range (Some m) h = λ n e. length_in_range n (subst (λ (z : ℤ). is_l
 
 -- ---- the item
 
--- the pad of this label at this spot, with this copper and this hole
-abbrev pub pad_item : (label : Label) → Spot → List Part → Option Hole → local_fits label.local ≡ true → Item
+-- the pad of this label at this raw point, with this copper and this hole
+abbrev pub pad_item : (label : Label) → RawPoint → List Part → Option Hole → local_fits label.local ≡ true → Item
 pad_item label at copper hole fits = record {
   name = label.name;
   unit = label.unit;
@@ -171,8 +171,8 @@ pad_item label at copper hole fits = record {
   what_in_range = unmeasured (Pad label.number label.reference) refl;
 }
 
--- the pad of this label at this spot, if its copper and its hole lie on the board and its clearance is a length
-abbrev pub pad_with : Label → Spot → Option (List Part) → Option (Option Hole) → Option Item
+-- the pad of this label at this raw point, if its copper and its hole lie on the board and its clearance is a length
+abbrev pub pad_with : Label → RawPoint → Option (List Part) → Option (Option Hole) → Option Item
 pad_with label at copper hole =
     option_and_then (λ parts. option_and_then (λ drilled. tested (local_fits label.local) (pad_item label at parts drilled)) hole) copper
 
@@ -189,7 +189,7 @@ label_of unit net own head number tree =
 unfoldable pub pad_of : PlainBoard → ℕ → Head → Tree → Result Item BoardError
 pad_of board unit head tree = do
   number ← atom_of 1 tree
-  frame ← frame_of head.stance tree
+  frame ← frame_of head.placement tree
   layers ← in_needed (layers_named board.copper) tree (element (codes "layers") tree)
   form ← form_of frame.word frame.sizes tree
   net ← net_of board tree

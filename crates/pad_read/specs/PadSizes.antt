@@ -3,13 +3,13 @@ use Rattle.std.specs.Prelude.{ℤ, pos, ◌≤ℤ◌, ◌&&◌, Bool, codes, Opt
 use Rattle.std.specs.Ordering.{int_eq}
 use Rattle.sexpr_read.specs.Tree.{Tree, parts}
 use Rattle.board_errors.specs.declared.errors.BoardError.{BoardError}
-use Rattle.part_read.specs.declared.numbers.Spot.{Spot}
-use Rattle.list_read.specs.Answers.{◌>>=◌}
-use Rattle.list_read.specs.Heads.{is_text}
-use Rattle.list_read.specs.Elements.{element}
-use Rattle.part_read.specs.Elements.{in_needed, given_or, atom_of, atom_or}
-use Rattle.part_read.specs.Numbers.{size_in, spot_at}
-use Rattle.part_read.specs.Stances.{greatest_size}
+use Rattle.part_read.specs.declared.numbers.RawPoint.{RawPoint}
+use Rattle.list_read.specs.FirstRefusals.{◌>>=◌}
+use Rattle.list_read.specs.ListHeads.{is_text}
+use Rattle.list_read.specs.NamedElements.{element}
+use Rattle.part_read.specs.ElementResults.{in_needed, given_or, atom_of, atom_or}
+use Rattle.part_read.specs.BoardNumbers.{size_in, raw_point_at}
+use Rattle.part_read.specs.Placements.{greatest_size}
 use Rattle.pad_read.specs.declared.sizes.Sizes.{Sizes}
 use Rattle.pad_read.specs.declared.sizes.Drilling.{Drilling}
 
@@ -61,14 +61,14 @@ drilled_by list found =
     atom_or None (λ t. (if is_text t (codes "oval") then oval_sizes list else round_sizes t) >>= λ sizes. Ok (Some sizes)) found
 
 -- the copper stands where the pad does
-abbrev pub no_offset : Spot
+abbrev pub no_offset : RawPoint
 no_offset = record { x = pos 0; y = pos 0 }
 
 -- the hole and the offset that this `drill` gives
 unfoldable pub drilling_at : Tree → Result Drilling BoardError
 drilling_at list = do
   sizes ← drilled_by list (slice_get (parts list) 1)
-  offset ← given_or no_offset spot_at (element (codes "offset") list)
+  offset ← given_or no_offset raw_point_at (element (codes "offset") list)
   Ok (record { sizes = sizes; offset = offset })
 
 -- there is no hole and no offset

@@ -2,18 +2,18 @@
 
 ghost use Rattle.std.specs.Prelude.{◌≡◌, ◌++◌, OnOk, IfOk, All};
 ghost use Rattle.sexpr_read.specs.Tree.{parts};
-ghost use Rattle.sexpr_read.specs.Views.{tree_of};
+ghost use Rattle.sexpr_read.specs.TreeViews.{tree_of};
 ghost use Rattle.part_read.specs.Lists.{GivesItems};
-ghost use Rattle.part_read.specs.Nodes.{Gives};
+ghost use Rattle.part_read.specs.NodeResults.{Gives};
 ghost use Rattle.part_read.specs.Figures.{IsDrawable};
 ghost use Rattle.pad_read.specs.PadSizes.{AreRead};
 ghost use Rattle.pad_read.specs.PadShapes.{IsSmall};
-ghost use Rattle.pad_read.specs.Taking.{TakesPrimitive};
+ghost use Rattle.pad_read.specs.PrimitiveSteps.{TakesPrimitive};
 ghost use Rattle.pad_read.specs.CustomPads.{anchor_by_word, anchor_of, primitive_kind, primitive_by, primitives_among, primitives_of};
 
-use crate::cushions::{circle_cushion, rect_cushion};
 use crate::primitives::Primitives;
-use crate::sizes::{Cushion, Sizes};
+use crate::rounded_rects::{circle_rounded_rect, rect_rounded_rect};
+use crate::sizes::{RoundedRect, Sizes};
 use board_items::BoardError;
 use list_read::{element, has_head, place};
 use part_read::{Drawing, GraphicKind, drawing_of, first_atom, is_ring};
@@ -69,32 +69,32 @@ fn anchor_by_word(
     pad: Node<'_, '_>,
     sizes: Sizes,
     atom: Node<'_, '_>,
-) -> Result<Cushion, BoardError>
+) -> Result<RoundedRect, BoardError>
     requires { AreRead sizes }
     ensures anchor { result ≡ anchor_by_word (tree_of pad.entry) sizes (tree_of atom.entry) }
     ensures small { IfOk result IsSmall }
 {
     if atom.is(b"circle") {
-        return Ok(circle_cushion(sizes));
+        return Ok(circle_rounded_rect(sizes));
     }
     if atom.is(b"rect") {
-        return Ok(rect_cushion(sizes));
+        return Ok(rect_rounded_rect(sizes));
     }
     Err(BoardError::PadShape { at: place(pad) })
 }
 
 /// The anchor of a custom pad, a disc where it is missing.
 #[tactic(auto, unfolding(crate::specs::CustomPads::anchor_of))]
-pub(crate) fn anchor_of(sizes: Sizes, pad: Node<'_, '_>) -> Result<Cushion, BoardError>
+pub(crate) fn anchor_of(sizes: Sizes, pad: Node<'_, '_>) -> Result<RoundedRect, BoardError>
     requires { AreRead sizes }
     ensures anchor { result ≡ anchor_of sizes (tree_of pad.entry) }
     ensures small { IfOk result IsSmall }
 {
     let Some(options) = element(pad, b"options") else {
-        return Ok(circle_cushion(sizes));
+        return Ok(circle_rounded_rect(sizes));
     };
     match element(options, b"anchor") {
-        None => Ok(circle_cushion(sizes)),
+        None => Ok(circle_rounded_rect(sizes)),
         Some(list) => anchor_by_word(pad, sizes, first_atom(list)?),
     }
 }

@@ -1,10 +1,10 @@
-//! The point at a spot that counts half nanometres, with the test that it lies on the board.
+//! The point at a raw point that counts half nanometres, with the test that it lies on the board.
 
 ghost use Rattle.std.specs.Prelude.{◌≡◌};
 ghost use Rattle.pad_read.specs.Halves.{is_near_half, fits_half, half_point};
 
 use geo_seg::Point;
-use part_read::Spot;
+use part_read::RawPoint;
 
 /// The greatest coordinate in half nanometres: 500 mm.
 const GREATEST_COORDINATE: u64 = 1_000_000_000;
@@ -16,22 +16,22 @@ fn is_near_half(z: i64) -> bool
     z.unsigned_abs() <= GREATEST_COORDINATE
 }
 
-/// Whether both numbers of the spot are coordinates.
-fn fits_half(spot: Spot) -> bool
-    ensures { result ≡ fits_half spot }
+/// Whether both numbers of the raw point are coordinates.
+fn fits_half(raw_point: RawPoint) -> bool
+    ensures { result ≡ fits_half raw_point }
 {
-    is_near_half(spot.x) && is_near_half(spot.y)
+    is_near_half(raw_point.x) && is_near_half(raw_point.y)
 }
 
-/// The point at a spot that counts half nanometres, unless it lies off the board.
-pub(crate) fn half_point(spot: Spot) -> Option<Point>
-    ensures { result ≡ half_point spot }
+/// The point at a raw point that counts half nanometres, unless it lies off the board.
+pub(crate) fn half_point(raw_point: RawPoint) -> Option<Point>
+    ensures { result ≡ half_point raw_point }
 {
-    if !fits_half(spot) {
+    if !fits_half(raw_point) {
         return None;
     }
     Some(Point {
-        x: spot.x,
-        y: spot.y,
+        x: raw_point.x,
+        y: raw_point.y,
     })
 }

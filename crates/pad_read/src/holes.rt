@@ -3,19 +3,19 @@
 ghost use Rattle.std.specs.Prelude.{◌≡◌, IfOk, IfSome};
 ghost use Rattle.plain_types.specs.Lengths.{is_length};
 ghost use Rattle.part_read.specs.OnBoard.{tested};
-ghost use Rattle.part_read.specs.Stances.{IsStanceSpot};
+ghost use Rattle.part_read.specs.Placements.{IsPlacementRawPoint};
 ghost use Rattle.pad_read.specs.PadSizes.{AreRead, least_of};
 ghost use Rattle.pad_read.specs.PadFrames.{IsFramed, is_plated};
 ghost use Rattle.pad_read.specs.PadOf.{hole_with, hole_of, frame_hole};
 
-use crate::cushions::{cushion_at, oval_cushion, turned_cushion};
 use crate::pads::{Frame, PadType};
+use crate::rounded_rects::{oval_rounded_rect, rounded_rect_at, turned_rounded_rect};
 use crate::sizes::{Sizes, least_of};
 use crate::turning::hole_sizes;
 use board_items::Hole;
 use copper_layers::LayerSet;
 use geo_seg::Shape;
-use part_read::Spot;
+use part_read::RawPoint;
 use plain_types::is_length;
 use std::alloc::{AllocError, Global};
 
@@ -46,20 +46,20 @@ fn hole_with(layers: LayerSet, plated: bool, sizes: Sizes, shape: Shape) -> Opti
 fn hole_of(
     alloc: Global,
     layers: LayerSet,
-    at: Spot,
+    at: RawPoint,
     quarter: u32,
     plated: bool,
     sizes: Option<Sizes>,
 ) -> Result<Option<Option<Hole>>, AllocError>
-    requires at { IsStanceSpot at }
+    requires at { IsPlacementRawPoint at }
     requires read { IfSome sizes AreRead }
     ensures { IfOk result (λ hole. hole ≡ hole_of layers at quarter plated sizes) }
 {
     let Some(sizes) = sizes else {
         return Ok(Some(None));
     };
-    let cushion = turned_cushion(quarter, oval_cushion(sizes));
-    let Some(shape) = cushion_at(alloc, at, cushion)? else {
+    let rounded_rect = turned_rounded_rect(quarter, oval_rounded_rect(sizes));
+    let Some(shape) = rounded_rect_at(alloc, at, rounded_rect)? else {
         return Ok(None);
     };
     match hole_with(layers, plated, sizes, shape) {

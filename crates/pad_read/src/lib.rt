@@ -4,7 +4,6 @@
 #![tactic(auto)]
 
 mod copper;
-mod cushions;
 mod customs;
 mod forms;
 mod frames;
@@ -12,15 +11,16 @@ mod halves;
 mod head;
 mod holes;
 mod labels;
+mod local_placements;
 mod pad;
 mod pads;
 mod places;
-mod postures;
 mod primitives;
+mod rounded_rects;
 mod sizes;
 mod turning;
 mod words;
 
 pub use head::Head;
+pub use local_placements::{LocalPlacement, clearance_of, local_placement_of, quarters_of};
 pub use pad::pad_of;
-pub use postures::{Posture, clearance_of, posture_of, quarters_of};

@@ -1,18 +1,18 @@
 //! Pads as items.
 
 ghost use Rattle.std.specs.Prelude.{◌≡◌, ◌<◌, true, codes, is_some, IfOk, IsTrue};
-ghost use Rattle.sexpr_read.specs.Views.{tree_of};
+ghost use Rattle.sexpr_read.specs.TreeViews.{tree_of};
 ghost use Rattle.board_items.specs.Boards.{name_of};
 ghost use Rattle.copper_layers.specs.Layers.{is_within};
-ghost use Rattle.list_read.specs.Answers.{needed};
-ghost use Rattle.list_read.specs.Elements.{element};
-ghost use Rattle.list_read.specs.Heads.{place as begin_of};
-ghost use Rattle.part_read.specs.Elements.{in_needed};
-ghost use Rattle.part_read.specs.LayersOf.{layers_named};
-ghost use Rattle.part_read.specs.Nodes.{Gives};
+ghost use Rattle.list_read.specs.FirstRefusals.{needed};
+ghost use Rattle.list_read.specs.NamedElements.{element};
+ghost use Rattle.list_read.specs.ListHeads.{place as begin_of};
+ghost use Rattle.part_read.specs.ElementResults.{in_needed};
+ghost use Rattle.part_read.specs.BoardLayers.{layers_named};
+ghost use Rattle.part_read.specs.NodeResults.{Gives};
 ghost use Rattle.part_read.specs.OnBoard.{tested};
 ghost use Rattle.part_read.specs.Ready.{IsReady};
-ghost use Rattle.part_read.specs.Stances.{IsReadSpot};
+ghost use Rattle.part_read.specs.Placements.{IsReadRawPoint};
 ghost use Rattle.pad_read.specs.PadShapes.{IsSmall};
 ghost use Rattle.pad_read.specs.PadFrames.{IsFramed};
 ghost use Rattle.pad_read.specs.PadOf.{frame_copper, frame_hole, frame_fits, local_fits, pad_item, pad_with, placed, label_of, pad_of};
@@ -26,15 +26,15 @@ use crate::frames::frame_of;
 use crate::head::Head;
 use crate::holes::frame_hole;
 use crate::labels::Label;
+use crate::local_placements::clearance_of;
 use crate::pads::Frame;
-use crate::postures::clearance_of;
 use crate::primitives::primitives_fit;
 use crate::turning::{Clearances, local_of, sizes_fit, some_fit};
 use board_items::{Board, BoardError, Boxed, Hole, Item, Nm, Parts, What};
 use copper_layers::LayerSet;
 use drc_io::Name;
 use list_read::{element, name_from, place};
-use part_read::{Spot, first_atom, fits_board, layers_named, missing, name_of_list, net_of};
+use part_read::{RawPoint, first_atom, fits_board, layers_named, missing, name_of_list, net_of};
 use plain_types::is_length;
 use sexpr_read::Node;
 use std::alloc::{AllocError, Global};
@@ -70,7 +70,7 @@ fn pad_what(alloc: Global, number: Name, reference: Name) -> Result<What, AllocE
 fn pad_item(
     alloc: Global,
     label: Label,
-    at: Spot,
+    at: RawPoint,
     copper: Parts,
     hole: Option<Hole>,
 ) -> Result<Option<Item>, AllocError>
@@ -104,7 +104,7 @@ fn pad_with(
     form: &Form,
 ) -> Result<Option<Item>, AllocError>
     requires framed { IsFramed frame }
-    requires small { IsSmall form.now.cushion }
+    requires small { IsSmall form.now.rounded_rect }
     ensures { IfOk result (λ item. item ≡ pad_with label frame.at
         (frame_copper layers frame form.now) (frame_hole copper frame)) }
 {
@@ -127,7 +127,7 @@ fn placed(
     form: &Form,
 ) -> Result<Option<Item>, AllocError>
     requires framed { IsFramed frame }
-    requires small { IsSmall form.now.cushion }
+    requires small { IsSmall form.now.rounded_rect }
     ensures { IfOk result (λ item. item ≡ placed copper layers label frame form.now) }
 {
     if !(frame_fits(frame) && primitives_fit(form.primitives.as_slice())) {
@@ -148,7 +148,7 @@ fn pad_on(
     node: Node<'_, '_>,
 ) -> Result<Item, BoardError>
     requires framed { IsFramed frame }
-    requires small { IsSmall form.now.cushion }
+    requires small { IsSmall form.now.rounded_rect }
     requires net { is_some (name_of board.now label.net) ≡ true }
     requires on { IsTrue (is_within layers board.now.copper) }
     ensures pad { Gives result (needed (OutOfBoard (begin_of (tree_of node.entry)))
@@ -220,7 +220,7 @@ fn label_of(
 /// room.
 ///
 /// Its refusals are those of [`BoardError`], exactly where the definition of a pad (`specs/PadOf`)
-/// has them, with their places; want of memory alone is free.
+/// has them, with their places; running out of memory alone is free.
 #[tactic(auto, unfolding(crate::specs::PadOf::pad_of))]
 pub fn pad_of(
     alloc: Global,
@@ -229,13 +229,13 @@ pub fn pad_of(
     head: &Head,
     node: Node<'_, '_>,
 ) -> Result<Item, BoardError>
-    requires quarter { head.now.stance.quarter < 4 }
-    requires at { IsReadSpot head.now.stance.at }
+    requires quarter { head.now.placement.quarter < 4 }
+    requires at { IsReadRawPoint head.now.placement.at }
     ensures pad { Gives result (pad_of board.now unit head.now (tree_of node.entry)) }
     ensures ready { IfOk result (IsReady board.now unit) }
 {
     let number = first_atom(node)?;
-    let frame = frame_of(head.stance, node)?;
+    let frame = frame_of(head.placement, node)?;
     let layers = layers_of(board.copper(), node)?;
     let form = form_of(alloc, frame.word, frame.sizes, node)?;
     let net = declared_net(board, node)?;

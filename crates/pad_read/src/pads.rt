@@ -1,7 +1,7 @@
 //! What a pad is made for, its shape, and its frame.
 
 use crate::sizes::{Drilling, Sizes};
-use part_read::Spot;
+use part_read::RawPoint;
 
 /// What a pad is made for.
 #[derive(Clone, Copy, Debug, PartialEq, Eq, Drop)]
@@ -28,7 +28,7 @@ pub enum PadWord {
 pub struct Frame {
     pub pad_type: PadType,
     pub word: PadWord,
-    pub at: Spot,
+    pub at: RawPoint,
     pub quarter: u32,
     pub sizes: Sizes,
     pub drilling: Drilling,

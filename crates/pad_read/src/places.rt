@@ -2,7 +2,7 @@
 
 ghost use Rattle.std.specs.Prelude.{◌≡◌, slice_get, option_map};
 ghost use Rattle.sexpr_read.specs.Tree.{parts};
-ghost use Rattle.sexpr_read.specs.Views.{tree_of};
+ghost use Rattle.sexpr_read.specs.TreeViews.{tree_of};
 
 use sexpr_read::Node;
 

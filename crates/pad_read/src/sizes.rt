@@ -1,17 +1,17 @@
 //! The sizes of pads, and their drills: the sizes of a hole and the offset of the copper.
 
 ghost use Rattle.std.specs.Prelude.{◌≡◌, ◌≤ℤ◌, pos, codes, option_map, IfOk, IfSome};
-ghost use Rattle.sexpr_read.specs.Views.{tree_of};
-ghost use Rattle.list_read.specs.Elements.{element};
-ghost use Rattle.part_read.specs.Elements.{given_or, atom_or};
-ghost use Rattle.part_read.specs.Numbers.{size_in, spot_at};
-ghost use Rattle.part_read.specs.Stances.{greatest_size, IsReadSpot};
+ghost use Rattle.sexpr_read.specs.TreeViews.{tree_of};
+ghost use Rattle.list_read.specs.NamedElements.{element};
+ghost use Rattle.part_read.specs.ElementResults.{given_or, atom_or};
+ghost use Rattle.part_read.specs.BoardNumbers.{size_in, raw_point_at};
+ghost use Rattle.part_read.specs.Placements.{greatest_size, IsReadRawPoint};
 ghost use Rattle.pad_read.specs.PadSizes.{AreRead, sizes_at, sizes_of, least_of, are_equal, oval_sizes, drilled_by, no_offset, drilling_at, drilling_of};
 
 use crate::places::{first_part, third_part};
 use board_items::{BoardError, Nm};
 use list_read::element;
-use part_read::{Spot, first_atom, missing, second_atom, size_in, spot_in};
+use part_read::{RawPoint, first_atom, missing, raw_point_in, second_atom, size_in};
 use sexpr_read::Node;
 
 /// Two sizes in nanometres.
@@ -25,13 +25,13 @@ pub struct Sizes {
 #[derive(Clone, Copy, Debug, PartialEq, Eq, Drop)]
 pub struct Drilling {
     pub sizes: Option<Sizes>,
-    pub offset: Spot,
+    pub offset: RawPoint,
 }
 
 /// All within a radius of a box, which is given by how far its edges are from its middle; all in
 /// half nanometres.
 #[derive(Clone, Copy, Debug, PartialEq, Eq, Drop)]
-pub struct Cushion {
+pub struct RoundedRect {
     pub x: i64,
     pub y: i64,
     pub radius: i64,
@@ -134,14 +134,14 @@ fn drilled_by(list: Node<'_, '_>, found: Option<Node<'_, '_>>) -> Result<Option<
 }
 
 /// The offset of `(offset X Y)`, 0 where it is missing.
-fn offset_of(list: Node<'_, '_>) -> Result<Spot, BoardError>
+fn offset_of(list: Node<'_, '_>) -> Result<RawPoint, BoardError>
     ensures offset { result
-        ≡ given_or no_offset spot_at (element (codes "offset") (tree_of list.entry)) }
-    ensures within { IfOk result IsReadSpot }
+        ≡ given_or no_offset raw_point_at (element (codes "offset") (tree_of list.entry)) }
+    ensures within { IfOk result IsReadRawPoint }
 {
     match element(list, b"offset") {
-        None => Ok(Spot { x: 0, y: 0 }),
-        Some(offset) => spot_in(offset),
+        None => Ok(RawPoint { x: 0, y: 0 }),
+        Some(offset) => raw_point_in(offset),
     }
 }
 
@@ -149,7 +149,7 @@ fn offset_of(list: Node<'_, '_>) -> Result<Spot, BoardError>
 #[tactic(auto, unfolding(crate::specs::PadSizes::drilling_at))]
 fn drilling_at(list: Node<'_, '_>) -> Result<Drilling, BoardError>
     ensures drilling { result ≡ drilling_at (tree_of list.entry) }
-    ensures within { IfOk result (λ drilling. IsReadSpot drilling.offset) }
+    ensures within { IfOk result (λ drilling. IsReadRawPoint drilling.offset) }
     ensures read { IfOk result (λ drilling. IfSome drilling.sizes AreRead) }
 {
     let sizes = drilled_by(list, first_part(list))?;
@@ -160,13 +160,13 @@ fn drilling_at(list: Node<'_, '_>) -> Result<Drilling, BoardError>
 /// The hole and the offset of its copper that the drill of a pad gives.
 pub(crate) fn drilling_of(node: Node<'_, '_>) -> Result<Drilling, BoardError>
     ensures drilling { result ≡ drilling_of (tree_of node.entry) }
-    ensures within { IfOk result (λ drilling. IsReadSpot drilling.offset) }
+    ensures within { IfOk result (λ drilling. IsReadRawPoint drilling.offset) }
     ensures read { IfOk result (λ drilling. IfSome drilling.sizes AreRead) }
 {
     match element(node, b"drill") {
         None => Ok(Drilling {
             sizes: None,
-            offset: Spot { x: 0, y: 0 },
+            offset: RawPoint { x: 0, y: 0 },
         }),
         Some(list) => drilling_at(list),
     }

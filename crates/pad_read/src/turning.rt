@@ -5,13 +5,13 @@ ghost use Rattle.std.specs.Prelude.{◌≡◌, ◌<◌, IfSome};
 ghost use Rattle.pad_read.specs.PadFrames.{hole_sizes, is_round_hole, is_turning, quarter_of};
 ghost use Rattle.pad_read.specs.PadOf.{sizes_fit, some_fit, local_of, equals_drill, has_copper};
 
+use crate::local_placements::{LocalPlacement, quarters_of};
 use crate::pads::{PadType, PadWord};
-use crate::postures::{Posture, quarters_of};
 use crate::sizes::{Drilling, Sizes, are_equal};
 use crate::words::has_hole;
 use board_items::Nm;
 use copper_layers::LayerSet;
-use part_read::Spot;
+use part_read::RawPoint;
 use plain_types::is_length;
 
 /// The sizes of the hole of a pad, if it has one.
@@ -32,7 +32,7 @@ fn is_round_hole(hole: Option<Sizes>) -> bool
 }
 
 /// Whether nothing shows how a pad is turned.
-fn is_turning(word: PadWord, offset: Spot, hole: Option<Sizes>) -> bool
+fn is_turning(word: PadWord, offset: RawPoint, hole: Option<Sizes>) -> bool
     ensures { result ≡ is_turning word offset hole }
 {
     matches!(word, PadWord::Circle) && (offset.x == 0 && offset.y == 0) && is_round_hole(hole)
@@ -43,12 +43,12 @@ pub(crate) fn quarter_of(
     word: PadWord,
     drilling: Drilling,
     pad_type: PadType,
-    posture: Posture,
+    local_placement: LocalPlacement,
 ) -> Option<u32>
-    ensures quarter { result ≡ quarter_of word drilling pad_type posture.angle }
+    ensures quarter { result ≡ quarter_of word drilling pad_type local_placement.angle }
     ensures below { IfSome result (λ quarter. quarter < 4) }
 {
-    if let Some(quarter) = quarters_of(posture) {
+    if let Some(quarter) = quarters_of(local_placement) {
         return Some(quarter);
     }
     if is_turning(word, drilling.offset, hole_sizes(pad_type, drilling.sizes)) {

@@ -1,9 +1,9 @@
 //! The words at the front of a pad: what it is made for, and its shape.
 
 ghost use Rattle.std.specs.Prelude.{◌≡◌};
-ghost use Rattle.sexpr_read.specs.Views.{tree_of};
-ghost use Rattle.part_read.specs.Elements.{atom_of};
-ghost use Rattle.list_read.specs.Nodes.{tree_in};
+ghost use Rattle.sexpr_read.specs.TreeViews.{tree_of};
+ghost use Rattle.part_read.specs.ElementResults.{atom_of};
+ghost use Rattle.list_read.specs.FoundNodes.{tree_in};
 ghost use Rattle.pad_read.specs.PadFrames.{type_by, type_of, word_by, word_of, has_hole};
 
 use crate::pads::{PadType, PadWord};
@@ -65,7 +65,7 @@ fn word_by(atom: Node<'_, '_>) -> Option<PadWord>
 }
 
 /// The atom at place 3 of a list.
-#[tactic(auto, unfolding(part_read::specs::Elements::atom_of))]
+#[tactic(auto, unfolding(part_read::specs::ElementResults::atom_of))]
 fn third_atom<'d, 't>(list: Node<'d, 't>) -> Result<Node<'d, 't>, BoardError>
     ensures { tree_in result ≡ atom_of 3 (tree_of list.entry) }
 {

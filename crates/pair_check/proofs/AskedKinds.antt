@@ -10,20 +10,20 @@ use Rattle.copper_layers.specs.declared.set.LayerSet.{LayerSet}
 use Rattle.board_items.specs.declared.item.What.{What}
 use Rattle.board_items.specs.declared.item.What.TheVariants as what
 use Rattle.board_items.specs.declared.item.Item.{Item}
-use Rattle.net_class.specs.Classes.{PlainMins}
+use Rattle.net_class.specs.NetClasses.{PlainMins}
 use Rattle.cond_lang.specs.declared.kind.Kind.{Kind}
 use Rattle.cond_lang.specs.declared.kind.Kind.TheVariants.{Clearance, ViaDiameter, HoleSize}
 use Rattle.cond_lang.specs.declared.kind.Family.TheVariants.{Forbids as Forbidding}
 use Rattle.cond_lang.specs.declared.rule.Disallow.{Disallow as Bans}
 use Rattle.cond_lang.specs.declared.constraint.Constraint.{Constraint}
 use Rattle.cond_lang.specs.declared.constraints.Rule.{Rule}
-use Rattle.cond_lang.specs.Kinds.{family, kind_number, has_own, is_assertion}
+use Rattle.cond_lang.specs.CheckKinds.{family, kind_number, has_own, is_assertion}
 use Rattle.cond_lang.specs.Rules.{PlainConstraint, PlainRule, no_bans, plain_constraint, plain_rule}
 use Rattle.rule_pick.specs.declared.facts.Facts.{Facts}
 use Rattle.rule_pick.specs.Deciding.{minimum, has_default, greater_if, local_if, class_clearance_if, local_of, asked_by, IsPick}
 use Rattle.rule_pick.specs.Picks.{Pick}
 use Rattle.kind_subjects.specs.declared.layer.RowLayer.{RowLayer}
-use Rattle.kind_subjects.specs.Layers.{asked_layer}
+use Rattle.kind_subjects.specs.TriedLayers.{asked_layer}
 use Rattle.pair_check.specs.Asked.{asks, some_asks, AsksNothing}
 use Rattle.pair_check.specs.Pairs.{Deciders, Pair, IsNearAt}
 use Rattle.pair_check.specs.Singles.{bans_what, bans_item, ForbidsBy, Forbids, IsForbiddenAt}

@@ -4,19 +4,19 @@ use Rattle.std.specs.Bool.{if◌then◌else◌}
 use Rattle.std.specs.Int.{int_max}
 use Rattle.std.proofs.lemmas.Int.{ints}
 use Rattle.board_items.specs.declared.item.Item.{Item}
-use Rattle.net_class.specs.Classes.{PlainMins}
+use Rattle.net_class.specs.NetClasses.{PlainMins}
 use Rattle.cond_lang.specs.declared.kind.Kind.{Kind}
 use Rattle.cond_lang.specs.declared.kind.Kind.TheVariants.{Clearance, TrackWidth, ViaDiameter, HoleSize, AnnularWidth, Disallow, Assertion}
 use Rattle.cond_lang.specs.declared.kind.Family.TheVariants.{Limits}
 use Rattle.cond_lang.specs.declared.constraints.Rule.{Rule}
-use Rattle.cond_lang.specs.Kinds.{family, has_own}
+use Rattle.cond_lang.specs.CheckKinds.{family, has_own}
 use Rattle.cond_lang.specs.Rules.{PlainRule, plain_rule}
 use Rattle.rule_pick.specs.declared.facts.Facts.{Facts}
 use Rattle.rule_pick.specs.Deciding.{minimum, greater_if, local_if, local_of, asked_by, class_clearance_if, IsPick}
 use Rattle.rule_pick.specs.Picks.{Pick}
 use Rattle.kind_subjects.specs.declared.layer.RowLayer.{RowLayer}
-use Rattle.kind_subjects.specs.Layers.{asked_layer}
-use Rattle.kind_subjects.specs.Lengths.{times, length_of}
+use Rattle.kind_subjects.specs.TriedLayers.{asked_layer}
+use Rattle.kind_subjects.specs.LimitedLengths.{times, length_of}
 use Rattle.pair_check.specs.declared.alone.Enough.{Enough}
 use Rattle.pair_check.specs.Asked.{some_asks}
 use Rattle.pair_check.specs.Alone.{IsEnough, AreEnoughAlone}

@@ -9,10 +9,10 @@ use Rattle.std.specs.Map.{lookup}
 use Rattle.std.proofs.lemmas.List.Elements.{All-nil, All-cons, All-head, All-tail}
 use Rattle.board_items.specs.declared.item.Item.{Item}
 use Rattle.board_items.specs.Boards.{PlainBoard, item_at, name_of}
-use Rattle.net_class.specs.Classes.{PlainClass, PlainClasses, PlainMins, PlainPattern, class_named, pattern_of, class_by, class_of}
+use Rattle.net_class.specs.NetClasses.{PlainClass, PlainClasses, PlainMins, PlainPattern, class_named, pattern_of, class_by, class_of}
 use Rattle.cond_lang.specs.declared.kind.Kind.{Kind}
 use Rattle.cond_lang.specs.declared.kind.Kind.TheVariants.{Clearance, HoleClearance, HoleToHole, EdgeClearance, CourtyardClearance, PhysicalClearance, PhysicalHoleClearance}
-use Rattle.cond_lang.specs.Kinds.{kind_number, has_own}
+use Rattle.cond_lang.specs.CheckKinds.{kind_number, has_own}
 use Rattle.cond_lang.specs.Rules.{PlainConstraint, PlainRule}
 use Rattle.rule_pick.specs.declared.facts.Facts.{Facts}
 use Rattle.rule_pick.specs.FactsOf.{class_of_name, class_of_net, AreFactsOf}
@@ -22,9 +22,9 @@ use Rattle.rule_pick.specs.Reach.{is_between_two, distance_asked, distances_of, 
 use Rattle.pair_check.proofs.KindRows.{same_number}
 
 -- ---- lists
-front_of_all : {X : Type 0} (P : X → Type 0) (xs ys : List X) → All P (xs ++ ys) → All P xs
-front_of_all P [] ys a = All-nil P
-front_of_all P (x ∷ xs) ys a = All-cons P x xs (All-head P x (xs ++ ys) a) (front_of_all P xs ys (All-tail P x (xs ++ ys) a))
+prefix_of_all : {X : Type 0} (P : X → Type 0) (xs ys : List X) → All P (xs ++ ys) → All P xs
+prefix_of_all P [] ys a = All-nil P
+prefix_of_all P (x ∷ xs) ys a = All-cons P x xs (All-head P x (xs ++ ys) a) (prefix_of_all P xs ys (All-tail P x (xs ++ ys) a))
 
 back_of_all : {X : Type 0} (P : X → Type 0) (xs ys : List X) → All P (xs ++ ys) → All P ys
 back_of_all P [] ys a = a
@@ -32,7 +32,7 @@ back_of_all P (x ∷ xs) ys a = back_of_all P xs ys (All-tail P x (xs ++ ys) a)
 
 of_flat : {X Y : Type 0} (P : Y → Type 0) (f : X → List Y) (xs : List X) → All P (flat_map f xs) → All (λ x. All P (f x)) xs
 of_flat P f [] a = All-nil (λ x. All P (f x))
-of_flat P f (x ∷ xs) a = All-cons (λ x. All P (f x)) x xs (front_of_all P (f x) (flat_map f xs) a) (of_flat P f xs (back_of_all P (f x) (flat_map f xs) a))
+of_flat P f (x ∷ xs) a = All-cons (λ x. All P (f x)) x xs (prefix_of_all P (f x) (flat_map f xs) a) (of_flat P f xs (back_of_all P (f x) (flat_map f xs) a))
 
 of_map : {X Y : Type 0} (P : Y → Type 0) (f : X → Y) (xs : List X) → All P (map f xs) → All (λ x. P (f x)) xs
 of_map P f [] a = All-nil (λ x. P (f x))
@@ -125,13 +125,13 @@ module _ (board : PlainBoard) (classes : PlainClasses) (rules : List PlainRule) 
   after_classes = back_of_all AtMost (clearances_of classes) (least_distances classes.mins ++ local_clearances board.items) after_rules
 
   of_rules : All (λ rule. All AtMost (distances_of rule)) rules
-  of_rules = of_flat AtMost distances_of rules (front_of_all AtMost (flat_map distances_of rules) (clearances_of classes ++ (least_distances classes.mins ++ local_clearances board.items)) reach.most)
+  of_rules = of_flat AtMost distances_of rules (prefix_of_all AtMost (flat_map distances_of rules) (clearances_of classes ++ (least_distances classes.mins ++ local_clearances board.items)) reach.most)
 
   of_classes : All (λ (class : PlainClass). class.clearance ≤ℤ n) (classes.default ∷ classes.named)
-  of_classes = of_map AtMost (λ (class : PlainClass). class.clearance) (classes.default ∷ classes.named) (front_of_all AtMost (clearances_of classes) (least_distances classes.mins ++ local_clearances board.items) after_rules)
+  of_classes = of_map AtMost (λ (class : PlainClass). class.clearance) (classes.default ∷ classes.named) (prefix_of_all AtMost (clearances_of classes) (least_distances classes.mins ++ local_clearances board.items) after_rules)
 
   of_mins : All AtMost (least_distances classes.mins)
-  of_mins = front_of_all AtMost (least_distances classes.mins) (local_clearances board.items) after_classes
+  of_mins = prefix_of_all AtMost (least_distances classes.mins) (local_clearances board.items) after_classes
 
   of_locals : All (λ (entry : ℕ × Item). All AtMost (one_if entry.1.local)) board.items
   of_locals = of_flat AtMost (λ (entry : ℕ × Item). one_if entry.1.local) board.items (back_of_all AtMost (least_distances classes.mins) (local_clearances board.items) after_classes)

@@ -6,7 +6,7 @@ use Rattle.geo_seg.specs.Distances.{IsGap}
 use Rattle.cond_lang.specs.declared.kind.Kind.{Kind}
 use Rattle.cond_lang.specs.declared.kind.Family.{Family}
 use Rattle.cond_lang.specs.declared.kind.Family.TheVariants.{Meets, Keeps, Limits, Forbids}
-use Rattle.cond_lang.specs.Kinds.{family}
+use Rattle.cond_lang.specs.CheckKinds.{family}
 use Rattle.rule_pick.specs.declared.facts.Facts.{Facts}
 use Rattle.rule_pick.specs.Picks.{Pick}
 use Rattle.rule_pick.proofs.OnePick.{one_pick}
@@ -16,10 +16,10 @@ use Rattle.kind_subjects.specs.declared.subject.Subject.TheVariants.{Length}
 use Rattle.kind_subjects.specs.declared.layer.RowLayer.{RowLayer}
 use Rattle.kind_subjects.specs.Subjects.{subject_of}
 use Rattle.pair_check.specs.PlainRow.{PlainRow}
-use Rattle.kind_subjects.specs.Layers.{IsFirst, asked_layer}
+use Rattle.kind_subjects.specs.TriedLayers.{IsFirst, asked_layer}
 use Rattle.kind_subjects.specs.Facing.{MeetAt, KeepAt}
 use Rattle.pair_check.specs.Pairs.{Deciders, Pair, IsPickOf, IsNearAt, SaysMeeting, SaysNear, BreaksBy, Breaks}
-use Rattle.kind_subjects.specs.Lengths.{length_of, times_in, times, IsQuotient}
+use Rattle.kind_subjects.specs.LimitedLengths.{length_of, times_in, times, IsQuotient}
 use Rattle.pair_check.specs.Singles.{IsPickAlone, IsOffAt, IsForbiddenAt, BreaksLimit, SaysLimit, SaysForbidden, BreaksAloneBy, BreaksAlone}
 use Rattle.kind_subjects.proofs.TriedLayers.{first_once}
 
@@ -86,14 +86,14 @@ some_once : {A : Type 0} (found : Option A) (x y : A) → found ≡ Some x → f
 some_once found x y e f = cc
 
 -- the two rows have the same ids and are of one kind
-pub record AreAlike (r s : PlainRow) : Type 0 where
+pub record HaveSameKeys (r s : PlainRow) : Type 0 where
   pub first : r.first ≡ s.first
   pub second : r.second ≡ s.second
   pub kind : r.kind ≡ s.kind
 
 -- ---- two items
 
-module _ (d : Deciders) (pair : Pair) (kind : Kind) (r s : PlainRow) (alike : AreAlike r s) where
+module _ (d : Deciders) (pair : Pair) (kind : Kind) (r s : PlainRow) (alike : HaveSameKeys r s) where
   meeting_once : SaysMeeting d kind pair r → SaysMeeting d kind pair s → r ≡ s
   meeting_once p q =
       same_row r s alike.first alike.second alike.kind (first_once d.copper (λ layer. MeetAt kind layer pair.a pair.b) r.layer s.layer p.where_first q.where_first) (p.value ∙ sym q.value)
@@ -110,7 +110,7 @@ module _ (d : Deciders) (pair : Pair) (kind : Kind) (r s : PlainRow) (alike : Ar
       (one_gap (KeepAt kind s.layer pair.a pair.b) q.pick.least r.gap s.gap gap q.gap) (p.over ∙ sym q.over) (p.source ∙ ap (λ (k : Pick). k.source) pick ∙ sym q.source)
       (p.severity ∙ ap (λ (k : Pick). k.severity) pick ∙ sym q.severity)
 
-pub broken_once : (d : Deciders) (pair : Pair) (kind : Kind) (r s : PlainRow) → AreAlike r s → Breaks d kind pair r → Breaks d kind pair s → r ≡ s
+pub broken_once : (d : Deciders) (pair : Pair) (kind : Kind) (r s : PlainRow) → HaveSameKeys r s → Breaks d kind pair r → Breaks d kind pair s → r ≡ s
 broken_once d pair kind r s alike p q = by (family kind) p q
   where
     by : (f : Family) → BreaksBy f d kind pair r → BreaksBy f d kind pair s → r ≡ s
@@ -140,7 +140,7 @@ one_limit kind n pick false true k l p q = absurd (not_both kind n pick k l p q)
 one_limit kind n pick true false k l p q = absurd (not_both kind n pick l k q p)
 one_limit kind n pick true true k l p q = some_once pick.most k l p.1 q.1
 
-module _ (d : Deciders) (item : Item) (facts : Facts) (kind : Kind) (r s : PlainRow) (alike : AreAlike r s) where
+module _ (d : Deciders) (item : Item) (facts : Facts) (kind : Kind) (r s : PlainRow) (alike : HaveSameKeys r s) where
   limit_once : SaysLimit d kind item facts r → SaysLimit d kind item facts s → r ≡ s
   limit_once p q =
       let n : p.length ≡ q.length = some_once (length_of kind item) p.length q.length p.measured q.measured in
@@ -163,7 +163,7 @@ module _ (d : Deciders) (item : Item) (facts : Facts) (kind : Kind) (r s : Plain
       same_row r s alike.first alike.second alike.kind layer (p.value ∙ sym q.value) (p.gap ∙ sym q.gap) (p.over ∙ sym q.over) (p.source ∙ ap (λ (k : Pick). k.source) pick ∙ sym q.source)
       (p.severity ∙ ap (λ (k : Pick). k.severity) pick ∙ sym q.severity)
 
-pub broken_alone_once : (d : Deciders) (item : Item) (facts : Facts) (kind : Kind) (r s : PlainRow) → AreAlike r s → BreaksAlone d kind item facts r → BreaksAlone d kind item facts s → r ≡ s
+pub broken_alone_once : (d : Deciders) (item : Item) (facts : Facts) (kind : Kind) (r s : PlainRow) → HaveSameKeys r s → BreaksAlone d kind item facts r → BreaksAlone d kind item facts s → r ≡ s
 broken_alone_once d item facts kind r s alike p q = by (family kind) p q
   where
     by : (f : Family) → BreaksAloneBy f d kind item facts r → BreaksAloneBy f d kind item facts s → r ≡ s

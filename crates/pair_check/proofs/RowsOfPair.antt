@@ -7,23 +7,23 @@ use Rattle.cond_lang.specs.declared.kind.Kind.TheVariants.{Short, Clearance, Hol
 use Rattle.cond_lang.specs.declared.rule.Severity.TheVariants.{Error}
 use Rattle.cond_lang.specs.declared.kind.Family.{Family}
 use Rattle.cond_lang.specs.declared.kind.Family.TheVariants.{Meets, Keeps}
-use Rattle.cond_lang.specs.Kinds.{family, kind_number}
+use Rattle.cond_lang.specs.CheckKinds.{family, kind_number}
 use Rattle.rule_pick.specs.declared.facts.Facts.{Facts}
 use Rattle.rule_pick.specs.declared.kinds.Source.TheVariants.{Default}
 use Rattle.rule_pick.specs.FactsOf.{AreFactsOf}
 use Rattle.rule_pick.proofs.OneFacts.{one_facts}
 use Rattle.kind_subjects.specs.declared.layer.RowLayer.{RowLayer}
 use Rattle.pair_check.specs.PlainRow.{PlainRow, AreOrdered, IdsAreInOrder}
-use Rattle.kind_subjects.specs.Layers.{IsFirst, HoldsNowhere}
+use Rattle.kind_subjects.specs.TriedLayers.{IsFirst, HoldsNowhere}
 use Rattle.kind_subjects.specs.Compared.{is_compared}
 use Rattle.kind_subjects.specs.Facing.{MeetAt}
-use Rattle.pair_check.specs.Pairs.{Deciders, Pair, DoMeet, SaysMeeting, SaysNear, BreaksBy, Breaks}
+use Rattle.pair_check.specs.Pairs.{Deciders, Pair, PairMeets, SaysMeeting, SaysNear, BreaksBy, Breaks}
 use Rattle.pair_check.specs.Asked.{AsksNothing}
 use Rattle.pair_check.specs.Rows.{Checked, deciders, Stands, IsRowOfTwo, AreRowsWhere, AreRowsOfPair}
 use Rattle.pair_check.specs.Stages.{IsNearOrMeets, IsOfPair, IsOfKind, IsBelow, AreRowsBelow}
 use Rattle.kind_subjects.proofs.TriedLayers.{none_of_no_first}
 use Rattle.pair_check.proofs.KindRows.{with_row, without_row, passes}
-use Rattle.pair_check.proofs.OneRow.{AreAlike, broken_once}
+use Rattle.pair_check.proofs.OneRow.{HaveSameKeys, broken_once}
 
 -- ---- kinds of two
 
@@ -57,7 +57,7 @@ short_row first second layer = record { first = first; second = second; kind = S
 module _ (d : Deciders) (pair : Pair) (first second : ℕ) where
   pub pair_once : (kind : Kind) (r s : PlainRow) → IsOfKind (IsOfPair d pair first second) kind r → IsOfKind (IsOfPair d pair first second) kind s → r ≡ s
   pair_once kind r s h k =
-      let alike : AreAlike r s = record { first = h.is.first_is ∙ sym k.is.first_is; second = h.is.second_is ∙ sym k.is.second_is; kind = h.kind_is ∙ sym k.kind_is } in
+      let alike : HaveSameKeys r s = record { first = h.is.first_is ∙ sym k.is.first_is; second = h.is.second_is ∙ sym k.is.second_is; kind = h.kind_is ∙ sym k.kind_is } in
       broken_once d pair kind r s alike (subst (λ (l : Kind). Breaks d l pair r) h.kind_is h.is.broken) (subst (λ (l : Kind). Breaks d l pair s) k.kind_is k.is.broken)
 
   -- the pair breaks the kind
@@ -102,14 +102,14 @@ module _ (d : Deciders) (pair : Pair) (first second : ℕ) where
   short_says : (row : PlainRow) → IsOfKind (IsOfPair d pair first second) Short row → SaysMeeting d Short pair row
   short_says row h = subst (λ (l : Kind). Breaks d l pair row) h.kind_is h.is.broken
 
-  do_meet : (row : PlainRow) → IsOfKind (IsOfPair d pair first second) Short row → DoMeet d Short pair
+  do_meet : (row : PlainRow) → IsOfKind (IsOfPair d pair first second) Short row → PairMeets d Short pair
   do_meet row h =
       let says = short_says row h in record { compared = says.compared; somewhere = record { layer = row.layer; tried = says.where_first.tried; holds = says.where_first.holds } }
 
-  no_clearance : DoMeet d Short pair → (row : PlainRow) → ¬ (IsOfKind (IsOfPair d pair first second) Clearance row)
+  no_clearance : PairMeets d Short pair → (row : PlainRow) → ¬ (IsOfKind (IsOfPair d pair first second) Clearance row)
   no_clearance meet row h = let says : SaysNear d Clearance pair row = subst (λ (l : Kind). Breaks d l pair row) h.kind_is h.is.broken in says.place meet
 
-  no_hole_clearance : DoMeet d Short pair → (row : PlainRow) → ¬ (IsOfKind (IsOfPair d pair first second) HoleClearance row)
+  no_hole_clearance : PairMeets d Short pair → (row : PlainRow) → ¬ (IsOfKind (IsOfPair d pair first second) HoleClearance row)
   no_hole_clearance meet row h = let says : SaysNear d HoleClearance pair row = subst (λ (l : Kind). Breaks d l pair row) h.kind_is h.is.broken in says.place meet
 
   pub pair_short : (rows : List PlainRow) (row : PlainRow) → IsOfKind (IsOfPair d pair first second) Short row → AreRowsBelow (IsOfPair d pair first second) 1 rows
@@ -130,11 +130,11 @@ module _ (d : Deciders) (pair : Pair) (first second : ℕ) where
           let says = says_near d pair Clearance row refl (subst (λ (l : Kind). Breaks d l pair row) h.kind_is h.is.broken) in
           nowhere.none row.layer says.where_first.tried (inl says.where_first.holds)
 
-  pub kept_apart : HoldsNowhere d.copper (IsNearOrMeets d pair) → ¬ (DoMeet d Short pair)
+  pub kept_apart : HoldsNowhere d.copper (IsNearOrMeets d pair) → ¬ (PairMeets d Short pair)
   kept_apart nowhere meet = nowhere.none meet.somewhere.layer meet.somewhere.tried (inr meet.somewhere.holds)
 
   -- without its row the pair does not meet
-  pub not_meeting : ((row : PlainRow) → ¬ (IsOfKind (IsOfPair d pair first second) Short row)) → ¬ (DoMeet d Short pair)
+  pub not_meeting : ((row : PlainRow) → ¬ (IsOfKind (IsOfPair d pair first second) Short row)) → ¬ (PairMeets d Short pair)
   not_meeting none meet =
       (none_of_no_first d.copper (λ (layer : RowLayer). MeetAt Short layer pair.a pair.b) (λ layer where_first. none (short_row first second layer) (is layer where_first))).none meet.somewhere.layer meet.somewhere.tried
       meet.somewhere.holds

@@ -6,7 +6,7 @@ use Rattle.cond_lang.specs.declared.kind.Kind.{Kind}
 use Rattle.cond_lang.specs.declared.kind.Kind.TheVariants.{TrackWidth, ViaDiameter, HoleSize, AnnularWidth, Disallow, Assertion}
 use Rattle.cond_lang.specs.declared.kind.Family.{Family}
 use Rattle.cond_lang.specs.declared.kind.Family.TheVariants.{Limits, Forbids}
-use Rattle.cond_lang.specs.Kinds.{family, kind_number}
+use Rattle.cond_lang.specs.CheckKinds.{family, kind_number}
 use Rattle.rule_pick.specs.declared.facts.Facts.{Facts}
 use Rattle.kind_subjects.specs.declared.subject.Subject.{Subject}
 use Rattle.kind_subjects.specs.declared.subject.Subject.TheVariants.{Whole}
@@ -14,7 +14,7 @@ use Rattle.kind_subjects.specs.declared.layer.RowLayer.{RowLayer}
 use Rattle.kind_subjects.specs.Subjects.{subject_of}
 use Rattle.kind_subjects.specs.KindLayers.{IsSeenOn, IsLayerOf}
 use Rattle.pair_check.specs.PlainRow.{PlainRow, AreOrdered, IdsAreInOrder}
-use Rattle.kind_subjects.specs.Layers.{IsTried}
+use Rattle.kind_subjects.specs.TriedLayers.{IsTried}
 use Rattle.kind_subjects.specs.SingleLayers.{IsAskedAt}
 use Rattle.pair_check.specs.Singles.{SaysLimit, SaysForbidden, BreaksAloneBy, BreaksAlone}
 use Rattle.pair_check.specs.Pairs.{Deciders}
@@ -22,7 +22,7 @@ use Rattle.pair_check.specs.Rows.{Checked, deciders, Stands, IsRowOfOne, AreRows
 use Rattle.pair_check.specs.Stages.{IsOfSingle, IsOfKind, IsBelow, AreRowsBelow}
 use Rattle.kind_subjects.proofs.SingleLayers.{asked_at}
 use Rattle.pair_check.proofs.KindRows.{with_row, without_row, no_rows, passes}
-use Rattle.pair_check.proofs.OneRow.{AreAlike, broken_alone_once}
+use Rattle.pair_check.proofs.OneRow.{HaveSameKeys, broken_alone_once}
 use Rattle.pair_check.proofs.RowsOfPair.{item_once, facts_once}
 
 -- ---- kinds of one
@@ -62,7 +62,7 @@ module _ (d : Deciders) (item : Item) (facts : Facts) (id : ℕ) where
 
   single_once : (kind : Kind) (r s : PlainRow) → IsOfKind (IsOfSingle d item facts id) kind r → IsOfKind (IsOfSingle d item facts id) kind s → r ≡ s
   single_once kind r s h k =
-      let alike : AreAlike r s = record { first = h.is.first_is ∙ sym k.is.first_is; second = h.is.second_is ∙ sym k.is.second_is; kind = h.kind_is ∙ sym k.kind_is } in
+      let alike : HaveSameKeys r s = record { first = h.is.first_is ∙ sym k.is.first_is; second = h.is.second_is ∙ sym k.is.second_is; kind = h.kind_is ∙ sym k.kind_is } in
       broken_alone_once d item facts kind r s alike (broken_of kind r h) (broken_of kind s k)
 
   pub single_with : (kind : Kind) (rows : List PlainRow) (row : PlainRow) → IsOfKind (IsOfSingle d item facts id) kind row → AreRowsBelow (IsOfSingle d item facts id) (kind_number kind) rows

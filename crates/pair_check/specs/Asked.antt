@@ -5,7 +5,7 @@ use Rattle.cond_lang.specs.declared.kind.Kind.{Kind}
 use Rattle.cond_lang.specs.declared.kind.Kind.TheVariants.{HoleClearance, HoleToHole, EdgeClearance, PhysicalClearance, PhysicalHoleClearance}
 use Rattle.cond_lang.specs.declared.constraint.Constraint.{Constraint}
 use Rattle.cond_lang.specs.declared.constraints.Rule.{Rule}
-use Rattle.cond_lang.specs.Kinds.{kind_number}
+use Rattle.cond_lang.specs.CheckKinds.{kind_number}
 use Rattle.kind_subjects.specs.declared.layer.RowLayer.{RowLayer}
 use Rattle.pair_check.specs.declared.asked.Asked.{Asked}
 use Rattle.pair_check.specs.Pairs.{Deciders, Pair, IsNearAt}

@@ -4,7 +4,7 @@ pub mod Asked
 pub mod Singles
 pub mod Alone
 pub mod Rows
-pub mod Views
+pub mod CheckViews
 pub mod Stages
 pub mod SameRows
 pub mod Coppers

@@ -3,21 +3,21 @@ use Rattle.std.specs.Prelude.{◌≡◌, pos, Bool, true, false, IsTrue, List, S
 use Rattle.geo_seg.specs.Distances.{IsGap}
 use Rattle.copper_layers.specs.declared.set.LayerSet.{LayerSet}
 use Rattle.board_items.specs.declared.item.Item.{Item}
-use Rattle.net_class.specs.Classes.{PlainMins}
+use Rattle.net_class.specs.NetClasses.{PlainMins}
 use Rattle.cond_lang.specs.declared.kind.Kind.{Kind}
 use Rattle.cond_lang.specs.declared.kind.Kind.TheVariants.{Short}
 use Rattle.cond_lang.specs.declared.kind.Family.{Family}
 use Rattle.cond_lang.specs.declared.kind.Family.TheVariants.{Meets, Keeps, Limits, Forbids}
 use Rattle.cond_lang.specs.declared.rule.Severity.TheVariants.{Error}
-use Rattle.cond_lang.specs.Kinds.{family, gives_place}
+use Rattle.cond_lang.specs.CheckKinds.{family, gives_place}
 use Rattle.cond_lang.specs.Rules.{PlainRule}
 use Rattle.rule_pick.specs.declared.facts.Facts.{Facts}
 use Rattle.rule_pick.specs.declared.kinds.Source.TheVariants.{Default}
 use Rattle.rule_pick.specs.Deciding.{IsPick}
 use Rattle.rule_pick.specs.Picks.{Pick}
 use Rattle.kind_subjects.specs.declared.layer.RowLayer.{RowLayer}
-use Rattle.pair_check.specs.PlainRow.{PlainRow, Counts}
-use Rattle.kind_subjects.specs.Layers.{IsFirst, HoldsSomewhere, asked_layer}
+use Rattle.pair_check.specs.PlainRow.{PlainRow, MakesRows}
+use Rattle.kind_subjects.specs.TriedLayers.{IsFirst, HoldsSomewhere, asked_layer}
 use Rattle.kind_subjects.specs.Compared.{is_compared}
 use Rattle.kind_subjects.specs.Facing.{MeetAt, KeepAt, TooNear}
 
@@ -42,16 +42,16 @@ IsPickOf d kind pair layer pick = IsPick d.rules d.mins kind pair.facts_a (Some 
 pub record IsNearAt (d : Deciders) (kind : Kind) (pair : Pair) (layer : RowLayer) : Type 0 where
   pub pick : Pick
   pub picked : IsPickOf d kind pair layer pick
-  pub counts : Counts pick.severity
+  pub counts : MakesRows pick.severity
   pub near : TooNear kind layer pair.a pair.b pick.least
 
 -- the pair is compared for the kind, and it meets on some layer
-pub record DoMeet (d : Deciders) (kind : Kind) (pair : Pair) : Type 0 where
+pub record PairMeets (d : Deciders) (kind : Kind) (pair : Pair) : Type 0 where
   pub compared : IsTrue (is_compared kind pair.a pair.b)
   pub somewhere : HoldsSomewhere d.copper (λ layer. MeetAt kind layer pair.a pair.b)
 
 abbrev pub IsGivenPlaceIf : Bool → Deciders → Pair → Type 0
-IsGivenPlaceIf true d pair = ¬ (DoMeet d Short pair)
+IsGivenPlaceIf true d pair = ¬ (PairMeets d Short pair)
 IsGivenPlaceIf false d pair = Unit {0}
 
 -- no short takes the place of the kind

@@ -3,8 +3,8 @@ use Rattle.std.specs.Prelude.{◌≡◌, ◌⊎◌, ℕ, ◌<◌, List, length, 
 use Rattle.std.specs.List.{AllPairs}
 use Rattle.board_items.specs.declared.item.Item.{Item}
 use Rattle.board_items.specs.Boards.{PlainBoard, item_at}
-use Rattle.net_class.specs.Classes.{PlainClasses}
-use Rattle.cond_lang.specs.Kinds.{kind_number}
+use Rattle.net_class.specs.NetClasses.{PlainClasses}
+use Rattle.cond_lang.specs.CheckKinds.{kind_number}
 use Rattle.cond_lang.specs.Rules.{PlainRule}
 use Rattle.rule_pick.specs.declared.facts.Facts.{Facts}
 use Rattle.rule_pick.specs.declared.kinds.Source.TheVariants.{Rule}

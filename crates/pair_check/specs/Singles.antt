@@ -7,15 +7,15 @@ use Rattle.cond_lang.specs.declared.kind.Kind.{Kind}
 use Rattle.cond_lang.specs.declared.kind.Family.{Family}
 use Rattle.cond_lang.specs.declared.kind.Family.TheVariants.{Meets, Keeps, Limits, Forbids as Forbidding}
 use Rattle.cond_lang.specs.declared.rule.Disallow.{Disallow}
-use Rattle.cond_lang.specs.Kinds.{family, is_assertion}
+use Rattle.cond_lang.specs.CheckKinds.{family, is_assertion}
 use Rattle.rule_pick.specs.declared.facts.Facts.{Facts}
 use Rattle.rule_pick.specs.Deciding.{IsPick}
 use Rattle.rule_pick.specs.Picks.{Pick}
 use Rattle.kind_subjects.specs.declared.layer.RowLayer.{RowLayer}
-use Rattle.pair_check.specs.PlainRow.{PlainRow, Counts}
+use Rattle.pair_check.specs.PlainRow.{PlainRow, MakesRows}
 use Rattle.kind_subjects.specs.SingleLayers.{IsAskedAt, IsMeasuredAt}
-use Rattle.kind_subjects.specs.Lengths.{length_of, times, IsQuotient}
-use Rattle.kind_subjects.specs.Layers.{IsFirst, asked_layer}
+use Rattle.kind_subjects.specs.LimitedLengths.{length_of, times, IsQuotient}
+use Rattle.kind_subjects.specs.TriedLayers.{IsFirst, asked_layer}
 use Rattle.pair_check.specs.Pairs.{Deciders}
 
 -- ---- limits
@@ -50,7 +50,7 @@ pub record IsOffAt (d : Deciders) (kind : Kind) (item : Item) (facts : Facts) (n
   pub asked : IsMeasuredAt kind item layer
   pub pick : Pick
   pub picked : IsPickAlone d kind facts layer pick
-  pub counts : Counts pick.severity
+  pub counts : MakesRows pick.severity
   pub over : Bool
   pub limit : ℤ
   pub broken : BreaksLimit kind n pick over limit
@@ -80,7 +80,7 @@ pub record IsForbiddenAt (d : Deciders) (kind : Kind) (item : Item) (facts : Fac
   pub asked : IsAskedAt item item.what layer
   pub pick : Pick
   pub picked : IsPickAlone d kind facts layer pick
-  pub counts : Counts pick.severity
+  pub counts : MakesRows pick.severity
   pub forbids : Forbids kind pick item
 
 -- the row says the first layer on which the item is forbidden, and what forbids it

@@ -4,14 +4,14 @@ use Rattle.board_items.specs.declared.item.Item.{Item}
 use Rattle.geo_seg.specs.Distances.{IsGap}
 use Rattle.cond_lang.specs.declared.kind.Kind.{Kind}
 use Rattle.cond_lang.specs.declared.kind.Kind.TheVariants.{Short, Clearance}
-use Rattle.cond_lang.specs.Kinds.{kind_number}
+use Rattle.cond_lang.specs.CheckKinds.{kind_number}
 use Rattle.rule_pick.specs.declared.facts.Facts.{Facts}
 use Rattle.rule_pick.specs.Picks.{pick_of}
 use Rattle.pair_check.specs.declared.found.Pair as code
 use Rattle.pair_check.specs.declared.found.Near.{Near}
 use Rattle.pair_check.specs.declared.found.Off.{Off}
 use Rattle.pair_check.specs.declared.found.Forbidden.{Forbidden}
-use Rattle.pair_check.specs.PlainRow.{PlainRow, Counts}
+use Rattle.pair_check.specs.PlainRow.{PlainRow, MakesRows}
 use Rattle.kind_subjects.specs.declared.layer.RowLayer.{RowLayer}
 use Rattle.kind_subjects.specs.Facing.{MeetAt, KeepAt, TooNear}
 use Rattle.pair_check.specs.Pairs.{Deciders, Pair, IsPickOf, IsNearAt, Breaks}
@@ -24,9 +24,9 @@ pair_of p = record { a = p.a.now; b = p.b.now; facts_a = p.facts_a.now; facts_b 
 -- ---- layers
 
 -- the pair is too near on this layer, with this pick and this gap
-pub record IsNear (d : Deciders) (kind : Kind) (pair : Pair) (near : Near) : Type 0 where
+pub record IsTooNear (d : Deciders) (kind : Kind) (pair : Pair) (near : Near) : Type 0 where
   pub picked : IsPickOf d kind pair near.layer (pick_of near.picked)
-  pub counts : Counts near.picked.severity
+  pub counts : MakesRows near.picked.severity
   pub too_near : TooNear kind near.layer pair.a pair.b near.picked.least
   pub gap : IsGap (KeepAt kind near.layer pair.a pair.b) near.picked.least near.gap
 
@@ -42,13 +42,13 @@ pub record AreUnfaced (kind : Kind) (pair : Pair) (layer : RowLayer) : Type 0 wh
 -- on this layer the length breaks this limit of this pick
 pub record IsOff (d : Deciders) (kind : Kind) (facts : Facts) (n : ℤ) (off : Off) : Type 0 where
   pub picked : IsPickAlone d kind facts off.layer (pick_of off.picked)
-  pub counts : Counts off.picked.severity
+  pub counts : MakesRows off.picked.severity
   pub broken : BreaksLimit kind n (pick_of off.picked) off.limit.over off.limit.nm
 
 -- on this layer the item is forbidden by this pick
 pub record IsForbidden (d : Deciders) (kind : Kind) (item : Item) (facts : Facts) (found : Forbidden) : Type 0 where
   pub picked : IsPickAlone d kind facts found.layer (pick_of found.picked)
-  pub counts : Counts found.picked.severity
+  pub counts : MakesRows found.picked.severity
   pub forbids : Forbids kind (pick_of found.picked) item
 
 -- ---- lists of rows

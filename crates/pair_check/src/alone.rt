@@ -2,11 +2,11 @@
 
 ghost use Rattle.std.specs.Prelude.{◌≡◌, ◌≤ℤ◌, ℤ, true, IfSome, Some};
 ghost use Rattle.cond_lang.specs.declared.kind.Family.{Family};
-ghost use Rattle.cond_lang.specs.Kinds.{family};
-ghost use Rattle.kind_subjects.specs.Lengths.{length_of};
+ghost use Rattle.cond_lang.specs.CheckKinds.{family};
+ghost use Rattle.kind_subjects.specs.LimitedLengths.{length_of};
 ghost use Rattle.pair_check.specs.Alone.{IsEnough, ForbidsNone, AreEnoughAlone, BreaksNothing};
 ghost use Rattle.pair_check.specs.Pairs.{Deciders};
-ghost use Rattle.pair_check.specs.Views.{deciders_of};
+ghost use Rattle.pair_check.specs.CheckViews.{deciders_of};
 
 use crate::asked::some_asks;
 use crate::view::CheckView;

@@ -2,7 +2,7 @@
 
 ghost use Rattle.std.specs.Prelude.{◌≡◌, false};
 ghost use Rattle.pair_check.specs.Asked.{asks, some_asks, AsksNothing, IsNoteOf};
-ghost use Rattle.pair_check.specs.Views.{deciders_of};
+ghost use Rattle.pair_check.specs.CheckViews.{deciders_of};
 
 use crate::view::CheckView;
 use cond_lang::{Kind, Rule};

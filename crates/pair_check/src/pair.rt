@@ -7,18 +7,18 @@ ghost use Rattle.plain_types.specs.Limits.{AreCounted};
 ghost use Rattle.board_items.specs.Boards.{item_at};
 ghost use Rattle.cond_lang.specs.declared.kind.Family.{Family};
 ghost use Rattle.cond_lang.specs.declared.kind.Kind.TheVariants.{HoleClearance};
-ghost use Rattle.cond_lang.specs.Kinds.{family, kind_number};
+ghost use Rattle.cond_lang.specs.CheckKinds.{family, kind_number};
 ghost use Rattle.pair_check.specs.PlainRow.{PlainRow};
-ghost use Rattle.kind_subjects.specs.Layers.{IsTried, IsFirst, HoldsNowhere};
+ghost use Rattle.kind_subjects.specs.TriedLayers.{IsTried, IsFirst, HoldsNowhere};
 ghost use Rattle.kind_subjects.specs.Compared.{is_compared};
 ghost use Rattle.kind_subjects.specs.Facing.{facings};
-ghost use Rattle.kind_subjects.specs.Sides.{facings_of};
+ghost use Rattle.kind_subjects.specs.MeasuredPairs.{facings_of};
 ghost use Rattle.rule_pick.specs.Picks.{pick_of};
 ghost use Rattle.pair_check.specs.Pairs.{IsPickOf, IsGivenPlace, IsNearAt};
 ghost use Rattle.pair_check.specs.Asked.{AsksNothing, IsNoteOf};
 ghost use Rattle.pair_check.specs.Rows.{Stands, AreRowsWhere, AreRowsOfPair};
-ghost use Rattle.pair_check.specs.Views.{checked_by, deciders_of, IsWholeView};
-ghost use Rattle.pair_check.specs.Stages.{pair_of, AreUnfaced, IsNear, IsNearOrMeets, IsOfPair, IsOfKind, AreRowsBelow};
+ghost use Rattle.pair_check.specs.CheckViews.{checked_by, deciders_of, IsWholeView};
+ghost use Rattle.pair_check.specs.Stages.{pair_of, AreUnfaced, IsTooNear, IsNearOrMeets, IsOfPair, IsOfKind, AreRowsBelow};
 
 use crate::asked::{ANYTHING, Asked};
 use crate::found::{Near, Pair, Single};
@@ -76,7 +76,7 @@ fn near_at(view: &CheckView, kind: Kind, pair: Pair<'_>, layer: RowLayer) -> Opt
     ensures { MatchOption result
         (¬ (IsNearAt (deciders_of view.now) kind (pair_of pair.entry) layer))
         (λ near. (near.layer ≡ layer)
-        × IsNear (deciders_of view.now) kind (pair_of pair.entry) near) }
+        × IsTooNear (deciders_of view.now) kind (pair_of pair.entry) near) }
 {
     let faced = facings_at(kind, layer, pair.a, pair.b);
     let picked = picked_at(view, kind, pair, layer, &faced)?;
@@ -95,7 +95,7 @@ fn first_near(view: &CheckView, kind: Kind, pair: Pair<'_>) -> Option<Near>
     ensures { MatchOption result
         (HoldsNowhere view.now.board.now.copper
         (IsNearAt (deciders_of view.now) kind (pair_of pair.entry)))
-        (λ near. IsNear (deciders_of view.now) kind (pair_of pair.entry) near
+        (λ near. IsTooNear (deciders_of view.now) kind (pair_of pair.entry) near
         × IsFirst view.now.board.now.copper
         (IsNearAt (deciders_of view.now) kind (pair_of pair.entry)) near.layer) }
 {

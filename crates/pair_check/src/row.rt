@@ -3,8 +3,8 @@
 ghost use Rattle.std.specs.Prelude.{◌≡◌, ◌↔◌, IsTrue};
 ghost use Rattle.plain_types.specs.Lengths.{IsLength};
 ghost use Rattle.kind_subjects.specs.KindLayers.{IsLayerOf};
-ghost use Rattle.kind_subjects.specs.Lengths.{IsNearZero};
-ghost use Rattle.pair_check.specs.PlainRow.{IdsAreInOrder, Counts};
+ghost use Rattle.kind_subjects.specs.LimitedLengths.{IsNearZero};
+ghost use Rattle.pair_check.specs.PlainRow.{IdsAreInOrder, MakesRows};
 
 use board_items::Nm;
 use cond_lang::{Kind, Severity};
@@ -14,7 +14,7 @@ use std::marker::Model;
 
 /// Whether what is picked makes rows: errors and warnings do.
 pub(crate) fn counts(severity: Severity) -> bool
-    ensures { IsTrue result ↔ Counts severity }
+    ensures { IsTrue result ↔ MakesRows severity }
 {
     match severity {
         Severity::Error | Severity::Warning => true,
@@ -115,7 +115,7 @@ impl Row {
     /// How much it weighs: an error or a warning.
     pub fn severity(&self) -> Severity
         ensures value { result ≡ self.now.severity }
-        ensures counts { Counts result }
+        ensures counts { MakesRows result }
     {
         self.severity
     }

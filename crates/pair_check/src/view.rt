@@ -6,7 +6,7 @@ use net_class::Classes;
 use rule_pick::FactsById;
 
 /// A board with the facts of its items, by their ids, and the rules and classes by which it is checked. The facts are those
-/// that the items have under these classes (`specs/Views`), which each call that takes a view asks for.
+/// that the items have under these classes (`specs/CheckViews`), which each call that takes a view asks for.
 #[derive(Clone, Copy)]
 pub struct CheckView<'a> {
     pub board: &'a Board,

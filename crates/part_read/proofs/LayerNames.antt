@@ -5,9 +5,9 @@ use Rattle.std.specs.List.{position_from}
 use Rattle.std.proofs.lemmas.Bool.{cases_eq}
 use Rattle.std.proofs.lemmas.Bool.Decides.{nat_tests}
 use Rattle.sexpr_read.specs.Tree.{Tree, leaf, branch, content, value, unescaped}
-use Rattle.list_read.specs.Heads.{is_text, is_value}
+use Rattle.list_read.specs.ListHeads.{is_text, is_value}
 use Rattle.copper_layers.specs.Layers.{layer_names}
-use Rattle.part_read.specs.LayersOf.{layer_number}
+use Rattle.part_read.specs.BoardLayers.{layer_number}
 
 -- the name of the back is the last of the 32
 pub back_is : (atom : Tree) → value atom ≡ Some (codes "B.Cu") → layer_number atom ≡ Some 31

@@ -12,9 +12,9 @@ use Rattle.board_errors.specs.declared.errors.BoardError.{BoardError}
 use Rattle.copper_layers.specs.declared.set.LayerSet.{LayerSet}
 use Rattle.copper_layers.specs.Layers.{has_layer, is_within, single_layer, union_of}
 use Rattle.copper_layers.proofs.LayerLemmas.{within_layers}
-use Rattle.list_read.specs.Answers.{◌>>=◌}
+use Rattle.list_read.specs.FirstRefusals.{◌>>=◌}
 use Rattle.part_read.specs.LayersWhere.{layers_below, layers_where, layers_of_any}
-use Rattle.part_read.specs.LayersOf.{each_set}
+use Rattle.part_read.specs.BoardLayers.{each_set}
 use Rattle.part_read.specs.LayerSets.{GivesSet}
 
 -- ---- single layers and unions

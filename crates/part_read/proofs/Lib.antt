@@ -6,9 +6,9 @@ pub mod Listing
 pub mod Roots
 pub mod Reach
 pub mod Gathering
-pub mod SpotTaking
+pub mod RawPointTaking
 pub mod Standing
 pub mod Boxing
 pub mod Plain
 pub mod Graphical
-pub mod Rooming
+pub mod Capacities

@@ -3,8 +3,8 @@ use Rattle.std.proofs.Common.{◌≡◌, refl, ℕ, [], ◌∷◌, None, Some, O
 use Rattle.sexpr_read.specs.Tree.{Tree, is_list}
 use Rattle.copper_layers.specs.declared.set.LayerSet.{LayerSet}
 use Rattle.copper_layers.specs.Layers.{single_layer}
-use Rattle.part_read.specs.Elements.{atom_of}
-use Rattle.part_read.specs.LayersOf.{layer_number, listed, layer_in, is_all_copper, is_outer, outer_of, named}
+use Rattle.part_read.specs.ElementResults.{atom_of}
+use Rattle.part_read.specs.BoardLayers.{layer_number, listed, layer_in, is_all_copper, is_outer, outer_of, named}
 
 pub listed_passed : (part : Tree) → is_list part ≡ false → listed part ≡ Ok []
 unfolding listed

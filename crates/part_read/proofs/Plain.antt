@@ -6,7 +6,7 @@ use Rattle.board_items.specs.declared.parts.Part.{Part}
 use Rattle.board_items.specs.declared.item.What.{What}
 use Rattle.board_items.specs.declared.item.Item.{Item}
 use Rattle.board_items.specs.Measures.{HasLengths}
-use Rattle.part_read.specs.declared.numbers.Spot.{Spot}
+use Rattle.part_read.specs.declared.numbers.RawPoint.{RawPoint}
 use Rattle.part_read.specs.PlainItems.{is_measured, unmeasured, none_in_range, plain_item}
 
 lengths_prop : (what : What) → IsProp (HasLengths what)
@@ -19,7 +19,7 @@ module _ (name : List ℕ) (unit net : ℕ) (copper : List Part) (what : What) w
   made : ℤ → ℤ → IsLengthIfSome None → HasLengths what → Item
   made x y l w = record { name = name; unit = unit; net = net; x = x; y = y; copper = copper; hole = None; local = None; what = what; local_in_range = l; what_in_range = w }
 
-  pub plain_is : (x y : ℤ) (l : IsLengthIfSome None) (w : HasLengths what) (at : Spot) (h : is_measured what ≡ false) → x ≡ at.x → y ≡ at.y
+  pub plain_is : (x y : ℤ) (l : IsLengthIfSome None) (w : HasLengths what) (at : RawPoint) (h : is_measured what ≡ false) → x ≡ at.x → y ≡ at.y
       → (let item : Item = record { name = name; unit = unit; net = net; x = x; y = y; copper = copper; hole = None; local = None; what = what; local_in_range = l; what_in_range = w } in item)
       ≡ plain_item name unit net at copper what h
   unfolding made
@@ -30,10 +30,10 @@ module _ (name : List ℕ) (unit net : ℕ) (copper : List Part) (what : What) w
       ∙ ap (λ (k : HasLengths what). made at.x at.y none_in_range k) (lengths_prop what w (unmeasured what h))
 
 -- a call with other names for the same
-pub plain_by : (item : Item) (name name' : List ℕ) (unit net : ℕ) (at at' : Spot) (copper copper' : List Part) (what what' : What)
+pub plain_by : (item : Item) (name name' : List ℕ) (unit net : ℕ) (at at' : RawPoint) (copper copper' : List Part) (what what' : What)
     → ((h : is_measured what ≡ false) → item ≡ plain_item name unit net at copper what h) → name ≡ name' → at ≡ at' → copper ≡ copper' → what ≡ what'
     → (h : is_measured what' ≡ false) → item ≡ plain_item name' unit net at' copper' what' h
 plain_by item name name' unit net at at' copper copper' what what' made en ea ec ew =
     subst (λ (w : What). (h : is_measured w ≡ false) → item ≡ plain_item name' unit net at' copper' w h) ew
-    (λ h. made h ∙ ap (λ (n : List ℕ). plain_item n unit net at copper what h) en ∙ ap (λ (s : Spot). plain_item name' unit net s copper what h) ea
+    (λ h. made h ∙ ap (λ (n : List ℕ). plain_item n unit net at copper what h) en ∙ ap (λ (s : RawPoint). plain_item name' unit net s copper what h) ea
     ∙ ap (λ (ps : List Part). plain_item name' unit net at' ps what h) ec)

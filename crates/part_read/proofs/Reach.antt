@@ -7,17 +7,17 @@ use Rattle.board_errors.specs.declared.errors.BoardError.TheVariants.{BadNumber 
 use Rattle.std.proofs.lemmas.Bool.{ltb-false}
 use Rattle.exact_dec.specs.declared.DecError.{DecError}
 use Rattle.exact_dec.specs.declared.DecError.TheVariants.{TooWide}
-use Rattle.exact_dec.specs.Reading.{is_long, is_far, no_more}
+use Rattle.exact_dec.specs.DecimalAnswers.{is_long, is_far, no_more}
 use Rattle.exact_dec.specs.Decimal.{Spelling, Fraction, cut, times, value}
 use Rattle.exact_dec.specs.Computed.{mm_cut_answer, answer_of, parts_of}
 use Rattle.board_errors.specs.declared.errors.BoardError.{BoardError}
 use Rattle.sexpr_read.specs.Tree.{Tree, content}
-use Rattle.list_read.specs.Answers.{◌>>=◌, needed}
-use Rattle.list_read.specs.Heads.{place}
-use Rattle.part_read.specs.Elements.{atom_of}
-use Rattle.part_read.specs.Numbers.{read_as, length_in, size_in, size_at, spot_at}
-use Rattle.part_read.specs.declared.numbers.Spot.{Spot}
-use Rattle.part_read.specs.Stances.{IsReadSpot}
+use Rattle.list_read.specs.FirstRefusals.{◌>>=◌, needed}
+use Rattle.list_read.specs.ListHeads.{place}
+use Rattle.part_read.specs.ElementResults.{atom_of}
+use Rattle.part_read.specs.BoardNumbers.{read_as, length_in, size_in, size_at, raw_point_at}
+use Rattle.part_read.specs.declared.numbers.RawPoint.{RawPoint}
+use Rattle.part_read.specs.Placements.{IsReadRawPoint}
 
 by_tests : (long far beyond : Bool) (n m : ℤ) → cond {A = Result ℤ DecError} (long || (far || beyond)) (Err TooWide) (Ok n) ≡ Ok m → far ≡ ltb 1000000000000 (unsigned_abs n) → unsigned_abs m ≤ 1000000000000
 by_tests true far beyond n m h e = absurd cc
@@ -54,18 +54,18 @@ pub both_ok : {A B : Type 0} (r : Result A BoardError) (f : A → Result B Board
 both_ok (Ok x) f y h = (x, (refl, h))
 both_ok (Err e) f y h = absurd cc
 
-pub spot_within : (list : Tree) (s : Spot) → spot_at list ≡ Ok s → IsReadSpot s
-unfolding spot_at
-spot_within list s h =
+pub raw_point_within : (list : Tree) (s : RawPoint) → raw_point_at list ≡ Ok s → IsReadRawPoint s
+unfolding raw_point_at
+raw_point_within list s h =
     let a = both_ok (atom_of 1 list) _ s h in
     let b = both_ok (length_in a.0) _ s a.1.1 in
     let c = both_ok (atom_of 2 list) _ s b.1.1 in
     let d = both_ok (length_in c.0) _ s c.1.1 in
     let same : record { x = b.0; y = d.0 } ≡ s = by_ok d.1.1 in
-    let wide : IsReadSpot (record { x = b.0; y = d.0 }) = record { x = length_within a.0 b.0 b.1.0; y = length_within c.0 d.0 d.1.0 } in
-    subst (λ (t : Spot). IsReadSpot t) same wide
+    let wide : IsReadRawPoint (record { x = b.0; y = d.0 }) = record { x = length_within a.0 b.0 b.1.0; y = length_within c.0 d.0 d.1.0 } in
+    subst (λ (t : RawPoint). IsReadRawPoint t) same wide
   where
-    by_ok : {t u : Spot} → (let r : Result Spot BoardError = Ok t in r) ≡ Ok u → t ≡ u
+    by_ok : {t u : RawPoint} → (let r : Result RawPoint BoardError = Ok t in r) ≡ Ok u → t ≡ u
     by_ok e = cc
 
 by_sign : (e : BoardError) (m n : ℤ) (b : Bool) → int_le (pos 0) m ≡ b → cond {A = Result ℤ BoardError} b (Ok m) (Err e) ≡ Ok n → unsigned_abs m ≤ 1000000000000 → (pos 0 ≤ℤ n) × (n ≤ℤ pos 1000000000000)

@@ -5,48 +5,48 @@ use Rattle.std.specs.Option.{option_or}
 use Rattle.sexpr_read.specs.Tree.{Tree, parts}
 use Rattle.board_errors.specs.declared.errors.BoardError.{BoardError}
 use Rattle.board_errors.specs.declared.errors.BoardError.TheVariants.{Missing, Arc, OutOfMemory}
-use Rattle.part_read.specs.declared.numbers.Spot.{Spot}
+use Rattle.part_read.specs.declared.numbers.RawPoint.{RawPoint}
 use Rattle.part_read.specs.declared.figures.Figure.TheVariants.{Line, Rect, Circle, Outline}
 use Rattle.part_read.specs.declared.figures.Drawing.{Drawing}
 use Rattle.part_read.specs.declared.drawings.GraphicKind.{GraphicKind}
 use Rattle.part_read.specs.declared.drawings.GraphicKind.TheVariants.{Line as LineKind, Rect as RectKind, Circle as CircleKind, Outline as OutlineKind}
-use Rattle.list_read.specs.Answers.{◌>>=◌, check}
-use Rattle.list_read.specs.Heads.{place, is_text, has_head}
-use Rattle.list_read.specs.Elements.{element}
-use Rattle.part_read.specs.Elements.{in_needed, given_or, atom_of}
-use Rattle.part_read.specs.Numbers.{spot_at, spot_of, size_at}
+use Rattle.list_read.specs.FirstRefusals.{◌>>=◌, check}
+use Rattle.list_read.specs.ListHeads.{place, is_text, has_head}
+use Rattle.list_read.specs.NamedElements.{element}
+use Rattle.part_read.specs.ElementResults.{in_needed, given_or, atom_of}
+use Rattle.part_read.specs.BoardNumbers.{raw_point_at, raw_point_of, size_at}
 use Rattle.part_read.specs.Lists.{before}
 use Rattle.part_read.specs.Circles.{radius_between}
 
 -- ---- corners
 
--- the spots of each (xy X Y), in order; an (arc ..) is refused, or passed over where curves may stand
-abbrev pub spots_among : Bool → List Tree → Result (List Spot) BoardError
-spots_among curved [] = Ok []
-spots_among curved (t ∷ ts) =
+-- the raw points of each (xy X Y), in order; an (arc ..) is refused, or passed over where curves may stand
+abbrev pub raw_points_among : Bool → List Tree → Result (List RawPoint) BoardError
+raw_points_among curved [] = Ok []
+raw_points_among curved (t ∷ ts) =
     if has_head (codes "xy") t then (do
-      spot ← spot_at t
-      spots ← spots_among curved ts
-      Ok (spot ∷ spots))
+      raw_point ← raw_point_at t
+      raw_points ← raw_points_among curved ts
+      Ok (raw_point ∷ raw_points))
     else if has_head (codes "arc") t && not curved then Err (Arc (place t))
-    else spots_among curved ts
+    else raw_points_among curved ts
 
--- one part more is looked at: the spots so far, and those of this part and of what follows it, are the new ones and those of what
+-- one part more is looked at: the raw points so far, and those of this part and of what follows it, are the new ones and those of what
 -- follows; or the part is refused
-abbrev pub TakesSpot : Result (Unit {0}) BoardError → Bool → Tree → List Spot → List Spot → Type 0
-TakesSpot (Ok _) curved t old new = (rest : List Tree) → before old (spots_among curved (t ∷ rest)) ≡ before new (spots_among curved rest)
-TakesSpot (Err e) curved t old new = (e ≡ OutOfMemory) ⊎ ((rest : List Tree) → spots_among curved (t ∷ rest) ≡ Err e)
+abbrev pub TakesRawPoint : Result (Unit {0}) BoardError → Bool → Tree → List RawPoint → List RawPoint → Type 0
+TakesRawPoint (Ok _) curved t old new = (rest : List Tree) → before old (raw_points_among curved (t ∷ rest)) ≡ before new (raw_points_among curved rest)
+TakesRawPoint (Err e) curved t old new = (e ≡ OutOfMemory) ⊎ ((rest : List Tree) → raw_points_among curved (t ∷ rest) ≡ Err e)
 
--- three spots or more
-abbrev pub enough : Tree → List Spot → Result (List Spot) BoardError
-enough list spots = check (Missing (place list)) (nat_le 3 (length spots)) >>= λ _. Ok spots
+-- three raw points or more
+abbrev pub enough : Tree → List RawPoint → Result (List RawPoint) BoardError
+enough list raw_points = check (Missing (place list)) (nat_le 3 (length raw_points)) >>= λ _. Ok raw_points
 
 -- the corners of (pts (xy X Y) ..)
-unfoldable pub corners_in : Tree → Result (List Spot) BoardError
-corners_in list = spots_among false (parts list) >>= enough list
+unfoldable pub corners_in : Tree → Result (List RawPoint) BoardError
+corners_in list = raw_points_among false (parts list) >>= enough list
 
 -- the corners in the element `pts`, which must be there
-abbrev pub corners_of : Tree → Result (List Spot) BoardError
+abbrev pub corners_of : Tree → Result (List RawPoint) BoardError
 corners_of tree = in_needed corners_in tree (element (codes "pts") tree)
 
 -- ---- width and fill
@@ -75,16 +75,16 @@ fill_of otherwise tree = given_or otherwise (λ list. atom_of 1 list >>= λ atom
 -- a line from its start to its end
 unfoldable pub line_drawing : Tree → Result Drawing BoardError
 line_drawing tree = do
-  start ← spot_of (codes "start") tree
-  end ← spot_of (codes "end") tree
+  start ← raw_point_of (codes "start") tree
+  end ← raw_point_of (codes "end") tree
   width ← width_of tree
   Ok (record { figure = Line start end; width = width; filled = true })
 
 -- a rectangle, of which two corners that lie across are given
 unfoldable pub rect_drawing : Tree → Result Drawing BoardError
 rect_drawing tree = do
-  start ← spot_of (codes "start") tree
-  end ← spot_of (codes "end") tree
+  start ← raw_point_of (codes "start") tree
+  end ← raw_point_of (codes "end") tree
   width ← width_of tree
   filled ← fill_of false tree
   Ok (record { figure = Rect start end; width = width; filled = filled })
@@ -92,8 +92,8 @@ rect_drawing tree = do
 -- a circle around its centre through its end
 unfoldable pub circle_drawing : Tree → Result Drawing BoardError
 circle_drawing tree = do
-  center ← spot_of (codes "center") tree
-  end ← spot_of (codes "end") tree
+  center ← raw_point_of (codes "center") tree
+  end ← raw_point_of (codes "end") tree
   width ← width_of tree
   filled ← fill_of false tree
   Ok (record { figure = Circle center (radius_between center end); width = width; filled = filled })

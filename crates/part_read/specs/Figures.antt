@@ -11,8 +11,8 @@ use Rattle.geo_seg.specs.declared.shapes.Shape.{Shape}
 use Rattle.plain_types.specs.Lengths.{IsLength, greatest, is_length}
 use Rattle.copper_layers.specs.declared.set.LayerSet.{LayerSet}
 use Rattle.board_items.specs.declared.parts.Part.{Part}
-use Rattle.part_read.specs.declared.numbers.Spot.{Spot}
-use Rattle.part_read.specs.declared.stances.Stance.{Stance}
+use Rattle.part_read.specs.declared.numbers.RawPoint.{RawPoint}
+use Rattle.part_read.specs.declared.placements.Placement.{Placement}
 use Rattle.part_read.specs.declared.figures.Figure.{Figure}
 use Rattle.part_read.specs.declared.figures.Figure.TheVariants.{Line, Rect, Circle, Outline}
 use Rattle.part_read.specs.declared.figures.Drawing.{Drawing}
@@ -21,7 +21,7 @@ use Rattle.plain_types.proofs.LengthTests.{length_in_range}
 use Rattle.part_read.specs.There.{both}
 use Rattle.part_read.specs.OnBoard.{tested}
 use Rattle.part_read.specs.Circles.{most_radius}
-use Rattle.part_read.specs.Stances.{greatest_size, IsReadSpot, point_stood, points_stood}
+use Rattle.part_read.specs.Placements.{greatest_size, IsReadRawPoint, point_stood, points_stood}
 
 -- ---- cores of points
 
@@ -64,11 +64,11 @@ abbrev pub cores_around : Bool → List Point → List Core
 cores_around filled ps = if filled then Area ps ∷ [] else line_cores (sides ps)
 
 -- the cores of a figure that stands so
-abbrev pub cores_of : Stance → Bool → Figure → Option (List Core)
-cores_of stance filled (Line a b) = both line_between (point_stood stance a) (point_stood stance b)
-cores_of stance filled (Rect a b) = both (box_between filled) (point_stood stance a) (point_stood stance b)
-cores_of stance filled (Circle c r) = both line_between (point_stood stance c) (point_stood stance c)
-cores_of stance filled (Outline spots) = option_map (cores_around filled) (points_stood stance spots)
+abbrev pub cores_of : Placement → Bool → Figure → Option (List Core)
+cores_of placement filled (Line a b) = both line_between (point_stood placement a) (point_stood placement b)
+cores_of placement filled (Rect a b) = both (box_between filled) (point_stood placement a) (point_stood placement b)
+cores_of placement filled (Circle c r) = both line_between (point_stood placement c) (point_stood placement c)
+cores_of placement filled (Outline raw_points) = option_map (cores_around filled) (points_stood placement raw_points)
 
 -- ---- with half of a width around them
 
@@ -106,27 +106,27 @@ radius_with w (Circle c r) = (pos 2 *ℤ r) +ℤ w
 radius_with w figure = w
 
 -- the parts that a drawing gives, unless it leaves the board or its width, or the diameter of its disc, is above 500 mm
-abbrev pub drawn : LayerSet → Stance → Drawing → Option (List Part)
-drawn layers stance d = both (parts_around layers) (radius_of (radius_with d.width d.figure)) (cores_of stance d.filled d.figure)
+abbrev pub drawn : LayerSet → Placement → Drawing → Option (List Part)
+drawn layers placement d = both (parts_around layers) (radius_of (radius_with d.width d.figure)) (cores_of placement d.filled d.figure)
 
 -- on Edge.Cuts the lines alone count, though the width must be one
-abbrev pub drawn_edge : Stance → Drawing → Option (List Part)
-drawn_edge stance d =
-    if is_length d.width then drawn (record { bits = 0 }) stance (record { figure = d.figure; width = pos 0; filled = false }) else None
+abbrev pub drawn_edge : Placement → Drawing → Option (List Part)
+drawn_edge placement d =
+    if is_length d.width then drawn (record { bits = 0 }) placement (record { figure = d.figure; width = pos 0; filled = false }) else None
 
 -- ---- where it is said to be
 
--- the first of the spots; where there is none, the spot at 0
-abbrev pub first_of : List Spot → Spot
+-- the first of the raw points; where there is none, the raw point at 0
+abbrev pub first_of : List RawPoint → RawPoint
 first_of [] = record { x = pos 0; y = pos 0 }
 first_of (s ∷ ss) = s
 
--- the spot by which a report names a figure
-abbrev pub first_spot : Figure → Spot
-first_spot (Line a b) = a
-first_spot (Rect a b) = a
-first_spot (Circle c r) = c
-first_spot (Outline spots) = first_of spots
+-- the raw point by which a report names a figure
+abbrev pub first_raw_point : Figure → RawPoint
+first_raw_point (Line a b) = a
+first_raw_point (Rect a b) = a
+first_raw_point (Circle c r) = c
+first_raw_point (Outline raw_points) = first_of raw_points
 
 -- ---- circles that are no discs
 
@@ -145,12 +145,12 @@ is_circle figure = false
 
 -- ---- what was read lies within reach of all sums
 
--- the spots and the radius of the figure are as they are read; an outline has its spots so by its type
+-- the raw points and the radius of the figure are as they are read; an outline has its raw points so by its type
 abbrev pub HasReach : Figure → Type 0
-HasReach (Line a b) = IsReadSpot a × IsReadSpot b
-HasReach (Rect a b) = IsReadSpot a × IsReadSpot b
-HasReach (Circle c r) = IsReadSpot c × ((pos 0 ≤ℤ r) × (r ≤ℤ pos most_radius))
-HasReach (Outline spots) = ⊤
+HasReach (Line a b) = IsReadRawPoint a × IsReadRawPoint b
+HasReach (Rect a b) = IsReadRawPoint a × IsReadRawPoint b
+HasReach (Circle c r) = IsReadRawPoint c × ((pos 0 ≤ℤ r) × (r ≤ℤ pos most_radius))
+HasReach (Outline raw_points) = ⊤
 
 -- the figure and the width are as they are read
 pub record IsDrawable (d : Drawing) : Type 0 where

@@ -1,7 +1,7 @@
 -- Lists that readers gather.
 use Rattle.std.specs.Prelude.{◌++◌, List, Vec, Result, Ok, Err}
 use Rattle.std.specs.declared.alloc.Global.{Global}
-use Rattle.list_read.specs.Nodes.{GivesUnless}
+use Rattle.list_read.specs.FoundNodes.{GivesUnless}
 use Rattle.board_errors.specs.declared.errors.BoardError.{BoardError}
 use Rattle.board_errors.specs.declared.errors.BoardError.TheVariants.{OutOfMemory}
 

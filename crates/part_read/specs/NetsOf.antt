@@ -4,11 +4,11 @@ use Rattle.sexpr_read.specs.Tree.{Tree}
 use Rattle.board_errors.specs.declared.errors.BoardError.{BoardError}
 use Rattle.board_errors.specs.declared.errors.BoardError.TheVariants.{UnknownNet}
 use Rattle.board_items.specs.Boards.{PlainBoard, name_of}
-use Rattle.list_read.specs.Answers.{◌>>=◌}
-use Rattle.list_read.specs.Heads.{place}
-use Rattle.list_read.specs.Elements.{element}
-use Rattle.part_read.specs.Elements.{given_or, atom_of}
-use Rattle.part_read.specs.Numbers.{number_in}
+use Rattle.list_read.specs.FirstRefusals.{◌>>=◌}
+use Rattle.list_read.specs.ListHeads.{place}
+use Rattle.list_read.specs.NamedElements.{element}
+use Rattle.part_read.specs.ElementResults.{given_or, atom_of}
+use Rattle.part_read.specs.BoardNumbers.{number_in}
 
 -- the number in (net NUMBER), which was declared before
 unfoldable pub declared_in : PlainBoard → Tree → Result ℕ BoardError

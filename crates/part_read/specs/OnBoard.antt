@@ -11,7 +11,7 @@ use Rattle.plain_types.specs.Lengths.{IsLength, is_length}
 use Rattle.plain_types.proofs.LengthTests.{length_in_range}
 use Rattle.int_algebra.proofs.Tested.{front, back, doubled_by_tests}
 use Rattle.board_items.specs.Boards.{is_near}
-use Rattle.part_read.specs.declared.numbers.Spot.{Spot}
+use Rattle.part_read.specs.declared.numbers.RawPoint.{RawPoint}
 use Rattle.part_read.specs.declared.on_board.Strip.{Strip}
 
 -- what is made where the test holds
@@ -23,17 +23,17 @@ tested false make = None
 pub doubled_in_range : (z : ℤ) → is_near z ≡ true → IsCoordinate (pos 2 *ℤ z)
 doubled_in_range z h = doubled_by_tests z (front _ _ h) (back _ _ h)
 
--- the spot lies on a board: at most 500 mm from 0 in x and in y
-abbrev pub fits_board : Spot → Bool
-fits_board spot = is_near spot.x && is_near spot.y
+-- the raw point lies on a board: at most 500 mm from 0 in x and in y
+abbrev pub fits_board : RawPoint → Bool
+fits_board raw_point = is_near raw_point.x && is_near raw_point.y
 
--- the point at a spot that does
-abbrev pub point_at : (spot : Spot) → fits_board spot ≡ true → Point
-point_at spot fits = record {
-  x = pos 2 *ℤ spot.x;
-  y = pos 2 *ℤ spot.y;
-  x_in_range = doubled_in_range spot.x (front _ _ fits);
-  y_in_range = doubled_in_range spot.y (back _ _ fits);
+-- the point at a raw point that does
+abbrev pub point_at : (raw_point : RawPoint) → fits_board raw_point ≡ true → Point
+point_at raw_point fits = record {
+  x = pos 2 *ℤ raw_point.x;
+  y = pos 2 *ℤ raw_point.y;
+  x_in_range = doubled_in_range raw_point.x (front _ _ fits);
+  y_in_range = doubled_in_range raw_point.y (back _ _ fits);
 }
 
 -- both ends of the strip lie on a board, and its width is a length
@@ -41,7 +41,7 @@ abbrev pub is_strip : Strip → Bool
 is_strip strip = (fits_board strip.a && fits_board strip.b) && is_length strip.width
 
 -- the line from the one end to the other
-abbrev pub line_between : (a b : Spot) → fits_board a && fits_board b ≡ true → Core
+abbrev pub line_between : (a b : RawPoint) → fits_board a && fits_board b ≡ true → Core
 line_between a b fit = Line (record { a = point_at a (front _ _ fit); b = point_at b (back _ _ fit) })
 
 -- the shape of a strip that fits: all that lies within half its width of that line

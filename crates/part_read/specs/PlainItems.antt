@@ -7,7 +7,7 @@ use Rattle.board_items.specs.declared.item.What.{What}
 use Rattle.board_items.specs.declared.item.What.TheVariants.{Track, Via}
 use Rattle.board_items.specs.declared.item.Item.{Item}
 use Rattle.board_items.specs.Measures.{HasLengths}
-use Rattle.part_read.specs.declared.numbers.Spot.{Spot}
+use Rattle.part_read.specs.declared.numbers.RawPoint.{RawPoint}
 
 -- the kinds that have lengths
 abbrev pub is_measured : What → Bool
@@ -28,7 +28,7 @@ pub none_in_range : IsLengthIfSome None
 none_in_range = λ n e. absurd cc
 
 -- the item with this name, unit, net, position and copper, which is this
-abbrev pub plain_item : List ℕ → ℕ → ℕ → Spot → List Part → (what : What) → is_measured what ≡ false → Item
+abbrev pub plain_item : List ℕ → ℕ → ℕ → RawPoint → List Part → (what : What) → is_measured what ≡ false → Item
 plain_item name unit net at copper what h = record {
   name = name;
   unit = unit;

@@ -2,7 +2,7 @@
 use Rattle.std.specs.Prelude.{◌≡◌, ℕ, ◌<◌, ◌≤◌, true, List, length, All}
 use Rattle.board_items.specs.declared.item.Item.{Item}
 use Rattle.board_items.specs.Boards.{PlainBoard, is_admitted}
-use Rattle.board_items.specs.Refusals.{room_of}
+use Rattle.board_items.specs.ItemRefusals.{capacity_of}
 
 -- it may stand on the board, as one of this unit
 pub record IsReady (board : PlainBoard) (unit : ℕ) (item : Item) : Type 0 where
@@ -12,5 +12,5 @@ pub record IsReady (board : PlainBoard) (unit : ℕ) (item : Item) : Type 0 wher
 -- all may, and the board has room for them and a number for their unit
 pub record AreReady (board : PlainBoard) (unit : ℕ) (items : List Item) : Type 0 where
   pub each : All (IsReady board unit) items
-  pub room : length items ≤ room_of board
+  pub capacity : length items ≤ capacity_of board
   pub numbered : 0 < length items → unit < 4294967295

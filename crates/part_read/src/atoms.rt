@@ -1,10 +1,10 @@
 //! The atoms of a list, and the refusals where they are wrong.
 
 ghost use Rattle.std.specs.Prelude.{◌≡◌};
-ghost use Rattle.sexpr_read.specs.Views.{tree_of};
-ghost use Rattle.list_read.specs.Heads.{place};
-ghost use Rattle.list_read.specs.Nodes.{tree_in};
-ghost use Rattle.part_read.specs.Elements.{atom_of};
+ghost use Rattle.sexpr_read.specs.TreeViews.{tree_of};
+ghost use Rattle.list_read.specs.ListHeads.{place};
+ghost use Rattle.list_read.specs.FoundNodes.{tree_in};
+ghost use Rattle.part_read.specs.ElementResults.{atom_of};
 
 use board_items::BoardError;
 use list_read::place;
@@ -25,7 +25,7 @@ pub fn bad_number(atom: Node<'_, '_>) -> BoardError
 }
 
 /// The atom behind the head.
-#[tactic(auto, unfolding(crate::specs::Elements::atom_of))]
+#[tactic(auto, unfolding(crate::specs::ElementResults::atom_of))]
 pub fn first_atom<'d, 't>(list: Node<'d, 't>) -> Result<Node<'d, 't>, BoardError>
     ensures { tree_in result ≡ atom_of 1 (tree_of list.entry) }
 {
@@ -38,7 +38,7 @@ pub fn first_atom<'d, 't>(list: Node<'d, 't>) -> Result<Node<'d, 't>, BoardError
 }
 
 /// The atom behind the first one.
-#[tactic(auto, unfolding(crate::specs::Elements::atom_of))]
+#[tactic(auto, unfolding(crate::specs::ElementResults::atom_of))]
 pub fn second_atom<'d, 't>(list: Node<'d, 't>) -> Result<Node<'d, 't>, BoardError>
     ensures { tree_in result ≡ atom_of 2 (tree_of list.entry) }
 {

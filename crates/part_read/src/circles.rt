@@ -1,16 +1,16 @@
 //! The radius of a circle in whole nanometres.
 
 ghost use Rattle.std.specs.Prelude.{◌≡◌, ◌≤◌, ◌≤ℤ◌, pos};
-ghost use Rattle.part_read.specs.Stances.{IsReadSpot};
+ghost use Rattle.part_read.specs.Placements.{IsReadRawPoint};
 ghost use Rattle.part_read.specs.Circles.{most_square, most_radius, root, radius_between, square_between};
 
-use crate::numbers::Spot;
+use crate::numbers::RawPoint;
 use board_items::Nm;
 
-/// The square of the distance of two spots.
-fn square_between(a: Spot, b: Spot) -> u128
-    requires a { IsReadSpot a }
-    requires b { IsReadSpot b }
+/// The square of the distance of two raw points.
+fn square_between(a: RawPoint, b: RawPoint) -> u128
+    requires a { IsReadRawPoint a }
+    requires b { IsReadRawPoint b }
     ensures value { result ≡ square_between a b }
     ensures most { result ≤ most_square }
 {
@@ -30,9 +30,9 @@ fn root(square: u128) -> u128
 
 /// The radius of the circle around a centre through an end: the distance between them, cut to whole
 /// nanometres.
-pub fn radius_between(center: Spot, end: Spot) -> Nm
-    requires center { IsReadSpot center }
-    requires end { IsReadSpot end }
+pub fn radius_between(center: RawPoint, end: RawPoint) -> Nm
+    requires center { IsReadRawPoint center }
+    requires end { IsReadRawPoint end }
     ensures value { result ≡ radius_between center end }
     ensures from { pos 0 ≤ℤ result }
     ensures most { result ≤ℤ pos most_radius }

@@ -1,22 +1,22 @@
 //! What graphics draw, read from their lists.
 
 ghost use Rattle.std.specs.Prelude.{◌≡◌, ◌≤◌, ◌≤ℤ◌, pos, codes, option_map, option_and_then, ◌++◌, ◌∷◌, [], IfOk, OnOk, All};
-ghost use Rattle.sexpr_read.specs.Views.{tree_of};
-ghost use Rattle.list_read.specs.Elements.{element};
-ghost use Rattle.part_read.specs.Elements.{in_needed, given_or};
-ghost use Rattle.part_read.specs.Numbers.{spot_at, size_at};
-ghost use Rattle.part_read.specs.Nodes.{Gives};
+ghost use Rattle.sexpr_read.specs.TreeViews.{tree_of};
+ghost use Rattle.list_read.specs.NamedElements.{element};
+ghost use Rattle.part_read.specs.ElementResults.{in_needed, given_or};
+ghost use Rattle.part_read.specs.BoardNumbers.{raw_point_at, size_at};
+ghost use Rattle.part_read.specs.NodeResults.{Gives};
 ghost use Rattle.part_read.specs.Lists.{GivesItems};
 ghost use Rattle.sexpr_read.specs.Tree.{parts};
-ghost use Rattle.part_read.specs.Stances.{greatest_size, IsReadSpot};
+ghost use Rattle.part_read.specs.Placements.{greatest_size, IsReadRawPoint};
 ghost use Rattle.part_read.specs.Figures.{IsDrawable};
-ghost use Rattle.part_read.specs.Drawings.{spots_among, TakesSpot, corners_in, corners_of, width_of, filled_by, fill_of, line_drawing, rect_drawing, circle_drawing, outline_drawing, drawing_of};
+ghost use Rattle.part_read.specs.Drawings.{raw_points_among, TakesRawPoint, corners_in, corners_of, width_of, filled_by, fill_of, line_drawing, rect_drawing, circle_drawing, outline_drawing, drawing_of};
 
 use crate::atoms::{first_atom, missing};
 use crate::circles::radius_between;
 use crate::corners::Corners;
 use crate::figures::{Drawing, Figure};
-use crate::numbers::{Spot, size_at, spot_at};
+use crate::numbers::{RawPoint, raw_point_at, size_at};
 use board_items::{BoardError, Nm};
 use list_read::{element, has_head, place};
 use sexpr_read::Node;
@@ -31,45 +31,50 @@ pub enum GraphicKind {
     Outline,
 }
 
-/// The spot of `(HEAD X Y)`. Each number is at most 10^12 nanometres from 0.
-pub fn spot_in(list: Node<'_, '_>) -> Result<Spot, BoardError>
-    ensures spot { result ≡ spot_at (tree_of list.entry) }
-    ensures within { IfOk result IsReadSpot }
+/// The raw point of `(HEAD X Y)`. Each number is at most 10^12 nanometres from 0.
+pub fn raw_point_in(list: Node<'_, '_>) -> Result<RawPoint, BoardError>
+    ensures raw_point { result ≡ raw_point_at (tree_of list.entry) }
+    ensures within { IfOk result IsReadRawPoint }
 {
-    let spot = spot_at(list)?;
-    Ok(spot)
+    let raw_point = raw_point_at(list)?;
+    Ok(raw_point)
 }
 
-/// The spot of an element which must be there.
-fn spot_needed(node: Node<'_, '_>, head: &[u8]) -> Result<Spot, BoardError>
-    ensures spot { result
-        ≡ in_needed spot_at (tree_of node.entry) (element head.now (tree_of node.entry)) }
-    ensures within { IfOk result IsReadSpot }
+/// The raw point of an element which must be there.
+fn raw_point_needed(node: Node<'_, '_>, head: &[u8]) -> Result<RawPoint, BoardError>
+    ensures raw_point { result
+        ≡ in_needed raw_point_at (tree_of node.entry) (element head.now (tree_of node.entry)) }
+    ensures within { IfOk result IsReadRawPoint }
 {
     match element(node, head) {
         None => Err(missing(node)),
-        Some(list) => spot_in(list),
+        Some(list) => raw_point_in(list),
     }
 }
 
-/// Puts a spot behind the others.
-fn gather(spots: &mut Vec<Spot>, spot: Spot) -> Result<(), AllocError>
-    ensures { OnOk result (spots.new.items ≡ spots.old.items ++ spot ∷ []) }
+/// Puts a raw point behind the others.
+fn gather(raw_points: &mut Vec<RawPoint>, raw_point: RawPoint) -> Result<(), AllocError>
+    ensures { OnOk result (raw_points.new.items ≡ raw_points.old.items ++ raw_point ∷ []) }
 {
-    spots.push(spot)?;
+    raw_points.push(raw_point)?;
     Ok(())
 }
 
-/// Takes the spot of a part, if it is `(xy X Y)`. An arc is refused, or passed over where curves may
+/// Takes the raw point of a part, if it is `(xy X Y)`. An arc is refused, or passed over where curves may
 /// stand.
-fn take_spot(part: Node<'_, '_>, curved: bool, spots: &mut Vec<Spot>) -> Result<(), BoardError>
-    requires { All IsReadSpot spots.old.items }
-    ensures taken { TakesSpot result curved (tree_of part.entry) spots.old.items spots.new.items }
-    ensures within { OnOk result (All IsReadSpot spots.new.items) }
+fn take_raw_point(
+    part: Node<'_, '_>,
+    curved: bool,
+    raw_points: &mut Vec<RawPoint>,
+) -> Result<(), BoardError>
+    requires { All IsReadRawPoint raw_points.old.items }
+    ensures taken { TakesRawPoint result curved
+        (tree_of part.entry) raw_points.old.items raw_points.new.items }
+    ensures within { OnOk result (All IsReadRawPoint raw_points.new.items) }
 {
     if has_head(part, b"xy") {
-        let spot = spot_in(part)?;
-        gather(spots, spot)?;
+        let raw_point = raw_point_in(part)?;
+        gather(raw_points, raw_point)?;
         return Ok(());
     }
     if has_head(part, b"arc") && !curved {
@@ -78,17 +83,21 @@ fn take_spot(part: Node<'_, '_>, curved: bool, spots: &mut Vec<Spot>) -> Result<
     Ok(())
 }
 
-/// The spots of each `(xy X Y)`, each number at most 10^12 nanometres from 0. An arc is refused, or
+/// The raw points of each `(xy X Y)`, each number at most 10^12 nanometres from 0. An arc is refused, or
 /// passed over where curves may stand.
-pub fn spots_in(alloc: Global, list: Node<'_, '_>, curved: bool) -> Result<Vec<Spot>, BoardError>
-    ensures spots { GivesItems result (spots_among curved (parts (tree_of list.entry))) }
-    ensures within { IfOk result (λ spots. All IsReadSpot spots.items) }
+pub fn raw_points_in(
+    alloc: Global,
+    list: Node<'_, '_>,
+    curved: bool,
+) -> Result<Vec<RawPoint>, BoardError>
+    ensures raw_points { GivesItems result (raw_points_among curved (parts (tree_of list.entry))) }
+    ensures within { IfOk result (λ raw_points. All IsReadRawPoint raw_points.items) }
 {
-    let mut spots = Vec::new(alloc);
+    let mut raw_points = Vec::new(alloc);
     for part in list.children() {
-        take_spot(part, curved, &mut spots)?;
+        take_raw_point(part, curved, &mut raw_points)?;
     }
-    Ok(spots)
+    Ok(raw_points)
 }
 
 /// The corners of `(pts (xy X Y) ..)`.
@@ -96,11 +105,11 @@ pub fn spots_in(alloc: Global, list: Node<'_, '_>, curved: bool) -> Result<Vec<S
 fn corners_in(alloc: Global, list: Node<'_, '_>) -> Result<Corners, BoardError>
     ensures { Gives result (corners_in (tree_of list.entry)) }
 {
-    let spots = spots_in(alloc, list, false)?;
-    if spots.len() < 3 {
+    let raw_points = raw_points_in(alloc, list, false)?;
+    if raw_points.len() < 3 {
         return Err(missing(list));
     }
-    Ok(Corners::of(spots))
+    Ok(Corners::of(raw_points))
 }
 
 /// The corners in the element `pts`, which must be there.
@@ -186,8 +195,8 @@ fn line_drawing(node: Node<'_, '_>) -> Result<Drawing, BoardError>
     ensures drawing { Gives result (line_drawing (tree_of node.entry)) }
     ensures drawable { IfOk result IsDrawable }
 {
-    let start = spot_needed(node, b"start")?;
-    let end = spot_needed(node, b"end")?;
+    let start = raw_point_needed(node, b"start")?;
+    let end = raw_point_needed(node, b"end")?;
     let width = width_of(node)?;
     Ok(Drawing {
         figure: Figure::Line(start, end),
@@ -202,8 +211,8 @@ fn rect_drawing(node: Node<'_, '_>) -> Result<Drawing, BoardError>
     ensures drawing { Gives result (rect_drawing (tree_of node.entry)) }
     ensures drawable { IfOk result IsDrawable }
 {
-    let start = spot_needed(node, b"start")?;
-    let end = spot_needed(node, b"end")?;
+    let start = raw_point_needed(node, b"start")?;
+    let end = raw_point_needed(node, b"end")?;
     let width = width_of(node)?;
     let filled = fill_of(false, node)?;
     Ok(Drawing {
@@ -219,8 +228,8 @@ fn circle_drawing(node: Node<'_, '_>) -> Result<Drawing, BoardError>
     ensures drawing { Gives result (circle_drawing (tree_of node.entry)) }
     ensures drawable { IfOk result IsDrawable }
 {
-    let center = spot_needed(node, b"center")?;
-    let end = spot_needed(node, b"end")?;
+    let center = raw_point_needed(node, b"center")?;
+    let end = raw_point_needed(node, b"end")?;
     let width = width_of(node)?;
     let filled = fill_of(false, node)?;
     Ok(Drawing {

@@ -3,16 +3,16 @@
 ghost use Rattle.std.specs.Prelude.{◌≡◌, ◌<◌, ◌≤◌, ◌∷◌, ◌++◌, [], true, OnOk, Some, None, if◌then◌else◌, length, option_map, IfOk};
 ghost use Rattle.plain_types.specs.Lengths.{is_length};
 ghost use Rattle.part_read.specs.There.{both, after};
-ghost use Rattle.part_read.specs.Stances.{IsReadSpot, IsStanceSpot};
+ghost use Rattle.part_read.specs.Placements.{IsReadRawPoint, IsPlacementRawPoint};
 ghost use Rattle.part_read.specs.declared.figures.Figure.{Figure};
 ghost use Rattle.part_read.specs.declared.figures.Drawing.{Drawing};
-ghost use Rattle.part_read.specs.Figures.{sides, box_corners, box_core, line_cores, line_between, box_between, cores_around, cores_of, parts_around, radius_with, drawn, drawn_edge, first_spot, is_ring, is_circle, HasReach, IsDrawable};
+ghost use Rattle.part_read.specs.Figures.{sides, box_corners, box_core, line_cores, line_between, box_between, cores_around, cores_of, parts_around, radius_with, drawn, drawn_edge, first_raw_point, is_ring, is_circle, HasReach, IsDrawable};
 
 use crate::corners::Corners;
-use crate::numbers::Spot;
+use crate::numbers::RawPoint;
+use crate::placements::{Placement, point_stood, points_stood};
 use crate::radii::Radius;
 use crate::rounding::{around, radius_of};
-use crate::stances::{Stance, point_stood, points_stood};
 use board_items::{Nm, Part, Parts};
 use copper_layers::LayerSet;
 use geo_seg::{Core, Point, Poly, Seg, Shape};
@@ -23,11 +23,11 @@ use std::alloc::{AllocError, Global};
 /// What a graphic draws, in nanometres, relative to what it stands on.
 #[derive(Drop)]
 pub enum Figure {
-    Line(Spot, Spot),
+    Line(RawPoint, RawPoint),
     /// A rectangle, by two corners that lie across.
-    Rect(Spot, Spot),
+    Rect(RawPoint, RawPoint),
     /// A circle, by its centre and its radius.
-    Circle(Spot, Nm),
+    Circle(RawPoint, Nm),
     Outline(Corners),
 }
 
@@ -135,34 +135,34 @@ fn cores_around(alloc: Global, filled: bool, points: Vec<Point>) -> Result<Vec<C
 /// for each side.
 fn cores_of(
     alloc: Global,
-    stance: Stance,
+    placement: Placement,
     filled: bool,
     figure: &Figure,
 ) -> Result<Option<Vec<Core>>, AllocError>
-    requires quarter { stance.quarter < 4 }
-    requires at { IsStanceSpot stance.at }
+    requires quarter { placement.quarter < 4 }
+    requires at { IsPlacementRawPoint placement.at }
     requires reach { HasReach figure.now }
     ensures { IfOk result (λ cores.
-        option_map (λ found. found.items) cores ≡ cores_of stance filled figure.now) }
+        option_map (λ found. found.items) cores ≡ cores_of placement filled figure.now) }
 {
     match figure {
         Figure::Line(start, end) => line_between(
             alloc,
-            point_stood(stance, *start),
-            point_stood(stance, *end),
+            point_stood(placement, *start),
+            point_stood(placement, *end),
         ),
         Figure::Rect(start, end) => box_between(
             alloc,
             filled,
-            point_stood(stance, *start),
-            point_stood(stance, *end),
+            point_stood(placement, *start),
+            point_stood(placement, *end),
         ),
         Figure::Circle(center, _) => {
-            let point = point_stood(stance, *center);
+            let point = point_stood(placement, *center);
             line_between(alloc, point, point)
         }
         Figure::Outline(corners) => {
-            let Some(points) = points_stood(alloc, stance, corners.as_slice())? else {
+            let Some(points) = points_stood(alloc, placement, corners.as_slice())? else {
                 return Ok(None);
             };
             Ok(Some(cores_around(alloc, filled, points)?))
@@ -213,20 +213,20 @@ fn radius_with(drawing: &Drawing) -> Nm
 pub fn draw_into(
     alloc: Global,
     layers: LayerSet,
-    stance: Stance,
+    placement: Placement,
     drawing: &Drawing,
     list: &mut SmallVec<Part, 1>,
 ) -> Result<bool, AllocError>
-    requires quarter { stance.quarter < 4 }
-    requires at { IsStanceSpot stance.at }
+    requires quarter { placement.quarter < 4 }
+    requires at { IsPlacementRawPoint placement.at }
     requires drawable { IsDrawable drawing.now }
-    ensures { IfOk result (λ drew. after list.old.items (drawn layers stance drawing.now)
+    ensures { IfOk result (λ drew. after list.old.items (drawn layers placement drawing.now)
         ≡ (if drew then Some list.new.items else None)) }
 {
     let Some(radius) = radius_of(radius_with(drawing)) else {
         return Ok(false);
     };
-    let Some(cores) = cores_of(alloc, stance, drawing.filled, &drawing.figure)? else {
+    let Some(cores) = cores_of(alloc, placement, drawing.filled, &drawing.figure)? else {
         return Ok(false);
     };
     push_around(layers, radius, cores, list)?;
@@ -239,26 +239,26 @@ pub fn draw_into(
 pub(crate) fn draw(
     alloc: Global,
     layers: LayerSet,
-    stance: Stance,
+    placement: Placement,
     drawing: &Drawing,
 ) -> Result<Option<Parts>, AllocError>
-    requires quarter { stance.quarter < 4 }
-    requires at { IsStanceSpot stance.at }
+    requires quarter { placement.quarter < 4 }
+    requires at { IsPlacementRawPoint placement.at }
     requires drawable { IsDrawable drawing.now }
-    ensures { IfOk result (λ parts. parts ≡ drawn layers stance drawing.now) }
+    ensures { IfOk result (λ parts. parts ≡ drawn layers placement drawing.now) }
 {
     let mut list = SmallVec::new(alloc);
-    if !draw_into(alloc, layers, stance, drawing, &mut list)? {
+    if !draw_into(alloc, layers, placement, drawing, &mut list)? {
         return Ok(None);
     }
     Ok(Some(Parts::of(list)))
 }
 
-/// The spot by which a report names a figure.
-pub(crate) fn first_spot(figure: &Figure) -> Spot
+/// The raw point by which a report names a figure.
+pub(crate) fn first_raw_point(figure: &Figure) -> RawPoint
     requires { HasReach figure.now }
-    ensures spot { result ≡ first_spot figure.now }
-    ensures within { IsReadSpot result }
+    ensures raw_point { result ≡ first_raw_point figure.now }
+    ensures within { IsReadRawPoint result }
 {
     match figure {
         Figure::Line(start, _) | Figure::Rect(start, _) => *start,
@@ -288,13 +288,13 @@ pub(crate) fn is_circle(figure: &Figure) -> bool
 /// 500 mm.
 pub(crate) fn draw_edge(
     alloc: Global,
-    stance: Stance,
+    placement: Placement,
     drawing: Drawing,
 ) -> Result<Option<Parts>, AllocError>
-    requires quarter { stance.quarter < 4 }
-    requires at { IsStanceSpot stance.at }
+    requires quarter { placement.quarter < 4 }
+    requires at { IsPlacementRawPoint placement.at }
     requires drawable { IsDrawable drawing }
-    ensures { IfOk result (λ parts. parts ≡ drawn_edge stance drawing) }
+    ensures { IfOk result (λ parts. parts ≡ drawn_edge placement drawing) }
 {
     if !is_length(drawing.width) {
         return Ok(None);
@@ -304,5 +304,5 @@ pub(crate) fn draw_edge(
         width: 0,
         filled: false,
     };
-    draw(alloc, LayerSet { bits: 0 }, stance, &lines)
+    draw(alloc, LayerSet { bits: 0 }, placement, &lines)
 }

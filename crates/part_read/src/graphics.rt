@@ -2,25 +2,25 @@
 
 ghost use Rattle.std.specs.Prelude.{◌≡◌, ◌<◌, ◌∷◌, [], false, Some, IfOk, All, codes};
 ghost use Rattle.board_items.specs.declared.item.Item.{Item};
-ghost use Rattle.sexpr_read.specs.Views.{tree_of};
-ghost use Rattle.part_read.specs.Nodes.{Gives};
-ghost use Rattle.list_read.specs.Elements.{element};
-ghost use Rattle.part_read.specs.Elements.{name_among, name_in};
+ghost use Rattle.sexpr_read.specs.TreeViews.{tree_of};
+ghost use Rattle.part_read.specs.NodeResults.{Gives};
+ghost use Rattle.list_read.specs.NamedElements.{element};
+ghost use Rattle.part_read.specs.ElementResults.{name_among, name_in};
 ghost use Rattle.part_read.specs.Lists.{GivesItems};
-ghost use Rattle.part_read.specs.Stances.{IsStanceSpot};
-ghost use Rattle.part_read.specs.Grounds.{IsOn};
+ghost use Rattle.part_read.specs.Placements.{IsPlacementRawPoint};
+ghost use Rattle.part_read.specs.LayerRoles.{HasLayerOfRole};
 ghost use Rattle.part_read.specs.Ready.{IsReady};
 ghost use Rattle.part_read.specs.PlainItems.{is_measured, plain_item};
-ghost use Rattle.part_read.specs.Graphics.{ground_by, ground_of, copper_graphic, edge_graphic, note_of, graphic_by, curve_by, text_by};
+ghost use Rattle.part_read.specs.Graphics.{layer_role_by, layer_role_of, copper_graphic, edge_graphic, note_of, graphic_by, curve_by, text_by};
 
 use crate::atoms::first_atom;
 use crate::drawings::{GraphicKind, drawing_of};
-use crate::figures::{draw, draw_edge, first_spot, is_circle, is_ring};
+use crate::figures::{draw, draw_edge, first_raw_point, is_circle, is_ring};
 use crate::layers::drawn_on;
 use crate::names::name_in;
 use crate::nets::net_of;
-use crate::numbers::Spot;
-use crate::stances::{Stance, stand};
+use crate::numbers::RawPoint;
+use crate::placements::{Placement, stand};
 use board_items::{About, Board, BoardError, Boxed, Item, Part, Parts, What};
 use copper_layers::LayerSet;
 use drc_io::Name;
@@ -33,7 +33,7 @@ use std::alloc::{AllocError, Global};
 
 /// Where a graphic lies.
 #[derive(Clone, Copy, Debug, PartialEq, Eq, Drop)]
-pub enum Ground {
+pub enum LayerRole {
     /// On the copper layer with this number, which the board has.
     Copper(u32),
     /// On Edge.Cuts.
@@ -48,42 +48,42 @@ pub enum Ground {
 
 /// Where a graphic lies whose layer has this name: on the copper layer of this number, where it is
 /// one.
-fn ground_by(atom: Node<'_, '_>, layer: Option<u32>) -> Ground
-    ensures { result ≡ ground_by (tree_of atom.entry) layer }
+fn layer_role_by(atom: Node<'_, '_>, layer: Option<u32>) -> LayerRole
+    ensures { result ≡ layer_role_by (tree_of atom.entry) layer }
 {
     if let Some(layer) = layer {
-        return Ground::Copper(layer);
+        return LayerRole::Copper(layer);
     }
     if atom.is(b"Edge.Cuts") {
-        return Ground::Outlines;
+        return LayerRole::Outlines;
     }
     if atom.is(b"F.CrtYd") {
-        return Ground::Front;
+        return LayerRole::Front;
     }
     if atom.is(b"B.CrtYd") {
-        return Ground::Back;
+        return LayerRole::Back;
     }
-    Ground::Elsewhere
+    LayerRole::Elsewhere
 }
 
-/// The ground that `(layer NAME)` names. A copper layer that the board has not is refused.
-#[tactic(auto, unfolding(crate::specs::Graphics::ground_of))]
-pub fn ground_of(copper: LayerSet, node: Node<'_, '_>) -> Result<Ground, BoardError>
-    ensures lies { result ≡ ground_of copper (tree_of node.entry) }
-    ensures on { IfOk result (IsOn copper) }
+/// The layer role that `(layer NAME)` names. A copper layer that the board has not is refused.
+#[tactic(auto, unfolding(crate::specs::Graphics::layer_role_of))]
+pub fn layer_role_of(copper: LayerSet, node: Node<'_, '_>) -> Result<LayerRole, BoardError>
+    ensures lies { result ≡ layer_role_of copper (tree_of node.entry) }
+    ensures on { IfOk result (HasLayerOfRole copper) }
 {
     let Some(list) = element(node, b"layer") else {
-        return Ok(Ground::Elsewhere);
+        return Ok(LayerRole::Elsewhere);
     };
     let atom = first_atom(list)?;
     let layer = drawn_on(copper, atom)?;
-    Ok(ground_by(atom, layer))
+    Ok(layer_role_by(atom, layer))
 }
 
 // ---- items
 
 /// An item without a hole and without a clearance of its own.
-pub fn plain_item(name: Name, unit: u32, net: u32, at: Spot, copper: Parts, what: What) -> Item
+pub fn plain_item(name: Name, unit: u32, net: u32, at: RawPoint, copper: Parts, what: What) -> Item
     requires { is_measured what ≡ false }
     ensures { (h : is_measured what ≡ false) → result ≡ plain_item name unit net at copper what h }
 {
@@ -113,26 +113,26 @@ fn copper_graphic(
     alloc: Global,
     board: &Board,
     unit: u32,
-    stance: Stance,
+    placement: Placement,
     kind: GraphicKind,
     layer: u32,
     node: Node<'_, '_>,
 ) -> Result<Item, BoardError>
-    requires quarter { stance.quarter < 4 }
-    requires at { IsStanceSpot stance.at }
+    requires quarter { placement.quarter < 4 }
+    requires at { IsPlacementRawPoint placement.at }
     requires below { layer < 32 }
     ensures read { Gives result
-        (copper_graphic board.now unit stance kind layer (tree_of node.entry)) }
+        (copper_graphic board.now unit placement kind layer (tree_of node.entry)) }
 {
     let drawing = drawing_of(alloc, kind, node)?;
     let net = net_of(board, element(node, b"net"))?;
     if is_ring(&drawing) {
         return Err(BoardError::Ring { at: place(node) });
     }
-    let Some(copper) = draw(alloc, LayerSet::of(layer), stance, &drawing)? else {
+    let Some(copper) = draw(alloc, LayerSet::of(layer), placement, &drawing)? else {
         return Err(BoardError::OutOfBoard { at: place(node) });
     };
-    let at = stand(stance, first_spot(&drawing.figure));
+    let at = stand(placement, first_raw_point(&drawing.figure));
     Ok(plain_item(
         name_of_list(alloc, node)?,
         unit,
@@ -148,20 +148,20 @@ fn copper_graphic(
 fn edge_graphic(
     alloc: Global,
     unit: u32,
-    stance: Stance,
+    placement: Placement,
     kind: GraphicKind,
     node: Node<'_, '_>,
 ) -> Result<Item, BoardError>
-    requires quarter { stance.quarter < 4 }
-    requires at { IsStanceSpot stance.at }
-    ensures read { Gives result (edge_graphic unit stance kind (tree_of node.entry)) }
+    requires quarter { placement.quarter < 4 }
+    requires at { IsPlacementRawPoint placement.at }
+    ensures read { Gives result (edge_graphic unit placement kind (tree_of node.entry)) }
 {
     let drawing = drawing_of(alloc, kind, node)?;
     if is_circle(&drawing.figure) {
         return Err(BoardError::Ring { at: place(node) });
     }
-    let at = stand(stance, first_spot(&drawing.figure));
-    let Some(lines) = draw_edge(alloc, stance, drawing)? else {
+    let at = stand(placement, first_raw_point(&drawing.figure));
+    let Some(lines) = draw_edge(alloc, placement, drawing)? else {
         return Err(BoardError::OutOfBoard { at: place(node) });
     };
     let name = name_of_list(alloc, node)?;
@@ -184,7 +184,7 @@ fn note_of(alloc: Global, unit: u32, about: About, node: Node<'_, '_>) -> Result
 {
     let name = name_of_list(alloc, node)?;
     let layer = name_in(alloc, element(node, b"layer"))?;
-    let at = Spot { x: 0, y: 0 };
+    let at = RawPoint { x: 0, y: 0 };
     Ok(plain_item(
         name,
         unit,
@@ -217,12 +217,12 @@ pub fn name_of_list(alloc: Global, node: Node<'_, '_>) -> Result<Name, AllocErro
 // ---- by where they lie
 
 /// An arc or a curve is refused on copper and on Edge.Cuts.
-pub fn curve_by(alloc: Global, node: Node<'_, '_>, lies: Ground) -> Result<Vec<Item>, BoardError>
+pub fn curve_by(alloc: Global, node: Node<'_, '_>, lies: LayerRole) -> Result<Vec<Item>, BoardError>
     ensures { GivesItems result (curve_by (tree_of node.entry) lies) }
 {
     match lies {
-        Ground::Copper(_) | Ground::Outlines => Err(BoardError::Arc { at: place(node) }),
-        Ground::Front | Ground::Back | Ground::Elsewhere => Ok(Vec::new(alloc)),
+        LayerRole::Copper(_) | LayerRole::Outlines => Err(BoardError::Arc { at: place(node) }),
+        LayerRole::Front | LayerRole::Back | LayerRole::Elsewhere => Ok(Vec::new(alloc)),
     }
 }
 
@@ -233,29 +233,29 @@ pub fn read_graphic(
     alloc: Global,
     board: &Board,
     unit: u32,
-    stance: Stance,
+    placement: Placement,
     kind: GraphicKind,
     node: Node<'_, '_>,
-    lies: Ground,
+    lies: LayerRole,
 ) -> Result<Vec<Item>, BoardError>
-    requires quarter { stance.quarter < 4 }
-    requires at { IsStanceSpot stance.at }
-    requires on { IsOn board.now.copper lies }
+    requires quarter { placement.quarter < 4 }
+    requires at { IsPlacementRawPoint placement.at }
+    requires on { HasLayerOfRole board.now.copper lies }
     ensures items { GivesItems result
-        (graphic_by board.now unit stance kind (tree_of node.entry) lies) }
+        (graphic_by board.now unit placement kind (tree_of node.entry) lies) }
     ensures ready { IfOk result (λ items. All (IsReady board.now unit) items.items) }
 {
     board.soundness();
     match lies {
-        Ground::Copper(layer) => {
-            let item = copper_graphic(alloc, board, unit, stance, kind, layer, node)?;
+        LayerRole::Copper(layer) => {
+            let item = copper_graphic(alloc, board, unit, placement, kind, layer, node)?;
             Ok(one(alloc, item)?)
         }
-        Ground::Outlines => {
-            let item = edge_graphic(alloc, unit, stance, kind, node)?;
+        LayerRole::Outlines => {
+            let item = edge_graphic(alloc, unit, placement, kind, node)?;
             Ok(one(alloc, item)?)
         }
-        Ground::Front | Ground::Back | Ground::Elsewhere => Ok(Vec::new(alloc)),
+        LayerRole::Front | LayerRole::Back | LayerRole::Elsewhere => Ok(Vec::new(alloc)),
     }
 }
 
@@ -267,18 +267,18 @@ pub fn read_text(
     unit: u32,
     about: About,
     node: Node<'_, '_>,
-    lies: Ground,
+    lies: LayerRole,
 ) -> Result<Vec<Item>, BoardError>
     ensures items { GivesItems result (text_by unit about (tree_of node.entry) lies) }
     ensures ready { IfOk result (λ items. All (IsReady board.now unit) items.items) }
 {
     board.soundness();
     match lies {
-        Ground::Copper(_) => {
+        LayerRole::Copper(_) => {
             let note = note_of(alloc, unit, about, node)?;
             Ok(one(alloc, note)?)
         }
-        Ground::Outlines | Ground::Front | Ground::Back | Ground::Elsewhere => {
+        LayerRole::Outlines | LayerRole::Front | LayerRole::Back | LayerRole::Elsewhere => {
             Ok(Vec::new(alloc))
         }
     }

@@ -3,9 +3,9 @@
 ghost use Rattle.std.specs.Prelude.{◌≡◌, ◌<◌, ℕ, List, ◌∷◌, Some, IfOk, IfSome, IsTrue, option_map};
 ghost use Rattle.sexpr_read.specs.Tree.{value};
 ghost use Rattle.copper_layers.specs.Layers.{has_layer, is_within};
-ghost use Rattle.sexpr_read.specs.Views.{tree_of};
-ghost use Rattle.part_read.specs.Elements.{in_needed};
-ghost use Rattle.part_read.specs.LayersOf.{layer_number, listed, layers_listed, layer_in, copper_in, layer_at, layers_through, layer_if, outer_of, named, layers_named, drawn_on};
+ghost use Rattle.sexpr_read.specs.TreeViews.{tree_of};
+ghost use Rattle.part_read.specs.ElementResults.{in_needed};
+ghost use Rattle.part_read.specs.BoardLayers.{layer_number, listed, layers_listed, layer_in, copper_in, layer_at, layers_through, layer_if, outer_of, named, layers_named, drawn_on};
 ghost use Rattle.part_read.specs.LayersWhere.{layers_of_any};
 ghost use Rattle.part_read.specs.LayerSets.{GivesSet};
 
@@ -16,7 +16,7 @@ use list_read::place;
 use sexpr_read::Node;
 
 /// The layer that an atom names, if it is one of copper: all names are tried.
-#[tactic(auto, unfolding(crate::specs::LayersOf::layer_number))]
+#[tactic(auto, unfolding(crate::specs::BoardLayers::layer_number))]
 fn seek_layer(atom: Node<'_, '_>) -> Option<u32>
     ensures number { result ≡ layer_number (tree_of atom.entry) }
     ensures below { IfSome result (λ layer. layer < 32) }
@@ -64,7 +64,7 @@ fn layer_number(atom: Node<'_, '_>) -> Option<u32>
 // ---- the list of layers of a board
 
 /// The layer that `(NUMBER NAME ..)` lists, if it is one of copper.
-#[tactic(auto, unfolding(crate::specs::LayersOf::listed))]
+#[tactic(auto, unfolding(crate::specs::BoardLayers::listed))]
 fn listed(part: Node<'_, '_>) -> Result<LayerSet, BoardError>
     ensures { GivesSet result (listed (tree_of part.entry)) }
 {
@@ -79,7 +79,7 @@ fn listed(part: Node<'_, '_>) -> Result<LayerSet, BoardError>
 }
 
 /// The copper layers that `(layers (NUMBER NAME KIND) ..)` lists.
-#[tactic(auto, unfolding(crate::specs::LayersOf::layers_listed))]
+#[tactic(auto, unfolding(crate::specs::BoardLayers::layers_listed))]
 pub fn layers_listed(list: Node<'_, '_>) -> Result<LayerSet, BoardError>
     ensures { result ≡ layers_listed (tree_of list.entry) }
 {
@@ -94,7 +94,7 @@ pub fn layers_listed(list: Node<'_, '_>) -> Result<LayerSet, BoardError>
 
 /// The copper layer of the board that an atom names; None where it names no copper layer, and is
 /// passed over.
-#[tactic(auto, unfolding(crate::specs::LayersOf::layer_in))]
+#[tactic(auto, unfolding(crate::specs::BoardLayers::layer_in))]
 pub fn layer_in(copper: LayerSet, atom: Node<'_, '_>) -> Result<Option<u32>, BoardError>
     ensures layer { result ≡ layer_in copper (tree_of atom.entry) }
     ensures below { IfOk result (λ found. IfSome found (λ layer. layer < 32)) }
@@ -108,7 +108,7 @@ pub fn layer_in(copper: LayerSet, atom: Node<'_, '_>) -> Result<Option<u32>, Boa
 }
 
 /// The copper layer of the board that an atom names, where one must stand.
-#[tactic(auto, unfolding(crate::specs::LayersOf::copper_in))]
+#[tactic(auto, unfolding(crate::specs::BoardLayers::copper_in))]
 pub fn copper_in(copper: LayerSet, atom: Node<'_, '_>) -> Result<u32, BoardError>
     ensures layer { result ≡ copper_in copper (tree_of atom.entry) }
     ensures below { IfOk result (λ layer. layer < 32) }
@@ -121,7 +121,7 @@ pub fn copper_in(copper: LayerSet, atom: Node<'_, '_>) -> Result<u32, BoardError
 }
 
 /// The one layer of `(layer NAME)`.
-#[tactic(auto, unfolding(crate::specs::LayersOf::layer_at))]
+#[tactic(auto, unfolding(crate::specs::BoardLayers::layer_at))]
 fn layer_at(copper: LayerSet, list: Node<'_, '_>) -> Result<u32, BoardError>
     ensures layer { result ≡ layer_at copper (tree_of list.entry) }
     ensures below { IfOk result (λ layer. layer < 32) }
@@ -148,7 +148,7 @@ pub fn layer_of(
 }
 
 /// The layers of the board from the one to the other of `(layers NAME NAME)`, whichever is above.
-#[tactic(auto, unfolding(crate::specs::LayersOf::layers_through))]
+#[tactic(auto, unfolding(crate::specs::BoardLayers::layers_through))]
 fn layers_between(copper: LayerSet, list: Node<'_, '_>) -> Result<LayerSet, BoardError>
     ensures layers { result ≡ layers_through copper (tree_of list.entry) }
     ensures on { IfOk result (λ layers. IsTrue (is_within layers copper)) }
@@ -200,7 +200,7 @@ fn outer_of(copper: LayerSet) -> LayerSet
 
 /// The layers of the board that an atom names, with the wildcards `*.Cu` and `F&B.Cu`; a list is
 /// passed over.
-#[tactic(auto, unfolding(crate::specs::LayersOf::named))]
+#[tactic(auto, unfolding(crate::specs::BoardLayers::named))]
 pub fn named(copper: LayerSet, part: Node<'_, '_>) -> Result<LayerSet, BoardError>
     ensures set { GivesSet result (named copper (tree_of part.entry)) }
     ensures on { IfOk result (λ layers. IsTrue (is_within layers copper)) }
@@ -221,7 +221,7 @@ pub fn named(copper: LayerSet, part: Node<'_, '_>) -> Result<LayerSet, BoardErro
 }
 
 /// The layers of the board that the atoms of `(layers NAME ..)` name.
-#[tactic(auto, unfolding(crate::specs::LayersOf::layers_named))]
+#[tactic(auto, unfolding(crate::specs::BoardLayers::layers_named))]
 pub fn layers_named(copper: LayerSet, list: Node<'_, '_>) -> Result<LayerSet, BoardError>
     ensures set { result ≡ layers_named copper (tree_of list.entry) }
     ensures on { IfOk result (λ layers. IsTrue (is_within layers copper)) }
@@ -234,7 +234,7 @@ pub fn layers_named(copper: LayerSet, list: Node<'_, '_>) -> Result<LayerSet, Bo
 }
 
 /// The copper layer of the board that the layer of a graphic names; wildcards are passed over.
-#[tactic(auto, unfolding(crate::specs::LayersOf::drawn_on))]
+#[tactic(auto, unfolding(crate::specs::BoardLayers::drawn_on))]
 pub(crate) fn drawn_on(copper: LayerSet, atom: Node<'_, '_>) -> Result<Option<u32>, BoardError>
     ensures layer { result ≡ drawn_on copper (tree_of atom.entry) }
     ensures below { IfOk result (λ found. IfSome found (λ layer. layer < 32)) }

@@ -3,6 +3,7 @@
 #![tactic(auto)]
 
 mod atoms;
+mod capacity;
 mod circles;
 mod corners;
 mod drawings;
@@ -13,18 +14,18 @@ mod names;
 mod nets;
 mod numbers;
 mod on_board;
+mod placements;
 mod radii;
-mod room;
 mod rounding;
-mod stances;
 
 pub use atoms::{bad_number, first_atom, missing, second_atom};
+pub use capacity::has_capacity_after;
 pub use circles::radius_between;
 pub use corners::Corners;
-pub use drawings::{GraphicKind, corners_of, drawing_of, spot_in, spots_in};
+pub use drawings::{GraphicKind, corners_of, drawing_of, raw_point_in, raw_points_in};
 pub use figures::{Drawing, Figure, box_core, draw_into, is_ring};
 pub use graphics::{
-    Ground, curve_by, ground_of, name_of_list, no_parts, one_part, plain_item, read_graphic,
+    LayerRole, curve_by, layer_role_of, name_of_list, no_parts, one_part, plain_item, read_graphic,
     read_text,
 };
 pub use layers::{
@@ -32,9 +33,8 @@ pub use layers::{
 };
 pub use names::name_in;
 pub use nets::net_of;
-pub use numbers::{Spot, length_in, number_in, size_given, size_in, size_of, spot_of};
+pub use numbers::{RawPoint, length_in, number_in, raw_point_of, size_given, size_in, size_of};
 pub use on_board::{Strip, fits_board, point_at, strip_shape};
+pub use placements::{Placement, points_stood, stand};
 pub use radii::Radius;
-pub use room::has_room_after;
 pub use rounding::{around, no_radius, radius_of};
-pub use stances::{Stance, points_stood, stand};

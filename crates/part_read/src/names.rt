@@ -1,8 +1,8 @@
 //! The name that a list gives.
 
 ghost use Rattle.std.specs.Prelude.{◌≡◌, IfOk, option_map};
-ghost use Rattle.sexpr_read.specs.Views.{tree_of};
-ghost use Rattle.part_read.specs.Elements.{name_among};
+ghost use Rattle.sexpr_read.specs.TreeViews.{tree_of};
+ghost use Rattle.part_read.specs.ElementResults.{name_among};
 
 use crate::atoms::first_atom;
 use drc_io::Name;

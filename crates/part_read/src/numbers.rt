@@ -1,24 +1,24 @@
 //! The numbers of a board, and the elements that hold them.
 
 ghost use Rattle.std.specs.Prelude.{◌≡◌, option_map};
-ghost use Rattle.sexpr_read.specs.Views.{tree_of};
-ghost use Rattle.part_read.specs.Elements.{in_needed, in_given};
-ghost use Rattle.part_read.specs.Numbers.{length_in, size_in, number_in, spot_at, size_at};
+ghost use Rattle.sexpr_read.specs.TreeViews.{tree_of};
+ghost use Rattle.part_read.specs.ElementResults.{in_needed, in_given};
+ghost use Rattle.part_read.specs.BoardNumbers.{length_in, size_in, number_in, raw_point_at, size_at};
 
 use crate::atoms::{bad_number, first_atom, missing, second_atom};
 use board_items::{BoardError, Nm};
 use exact_dec::{count_of, mm_cut};
 use sexpr_read::Node;
 
-/// A spot in the plane, in nanometres. It may lie off the board.
+/// A raw point in the plane, in nanometres. It may lie off the board.
 #[derive(Clone, Copy, Debug, PartialEq, Eq, Drop)]
-pub struct Spot {
+pub struct RawPoint {
     pub x: Nm,
     pub y: Nm,
 }
 
 /// A length in nanometres, what is finer cut off.
-#[tactic(auto, unfolding(crate::specs::Numbers::length_in))]
+#[tactic(auto, unfolding(crate::specs::BoardNumbers::length_in))]
 pub fn length_in(atom: Node<'_, '_>) -> Result<Nm, BoardError>
     ensures { result ≡ length_in (tree_of atom.entry) }
 {
@@ -32,7 +32,7 @@ pub fn length_in(atom: Node<'_, '_>) -> Result<Nm, BoardError>
 }
 
 /// A size: a length that is not negative.
-#[tactic(auto, unfolding(crate::specs::Numbers::size_in))]
+#[tactic(auto, unfolding(crate::specs::BoardNumbers::size_in))]
 pub fn size_in(atom: Node<'_, '_>) -> Result<Nm, BoardError>
     ensures { result ≡ size_in (tree_of atom.entry) }
 {
@@ -45,7 +45,7 @@ pub fn size_in(atom: Node<'_, '_>) -> Result<Nm, BoardError>
 }
 
 /// A whole number.
-#[tactic(auto, unfolding(crate::specs::Numbers::number_in))]
+#[tactic(auto, unfolding(crate::specs::BoardNumbers::number_in))]
 pub fn number_in(atom: Node<'_, '_>) -> Result<u32, BoardError>
     ensures { result ≡ number_in (tree_of atom.entry) }
 {
@@ -60,28 +60,29 @@ pub fn number_in(atom: Node<'_, '_>) -> Result<u32, BoardError>
 
 // ---- in elements
 
-/// The spot of `(HEAD X Y)`.
-#[tactic(auto, unfolding(crate::specs::Numbers::spot_at))]
-pub(crate) fn spot_at(list: Node<'_, '_>) -> Result<Spot, BoardError>
-    ensures { result ≡ spot_at (tree_of list.entry) }
+/// The raw point of `(HEAD X Y)`.
+#[tactic(auto, unfolding(crate::specs::BoardNumbers::raw_point_at))]
+pub(crate) fn raw_point_at(list: Node<'_, '_>) -> Result<RawPoint, BoardError>
+    ensures { result ≡ raw_point_at (tree_of list.entry) }
 {
     let x = length_in(first_atom(list)?)?;
     let y = length_in(second_atom(list)?)?;
-    Ok(Spot { x, y })
+    Ok(RawPoint { x, y })
 }
 
-/// The spot in an element that the list must have.
-pub fn spot_of(node: Node<'_, '_>, found: Option<Node<'_, '_>>) -> Result<Spot, BoardError>
-    ensures { result ≡ in_needed spot_at (tree_of node.entry) (option_map tree_of found.entry) }
+/// The raw point in an element that the list must have.
+pub fn raw_point_of(node: Node<'_, '_>, found: Option<Node<'_, '_>>) -> Result<RawPoint, BoardError>
+    ensures { result ≡ in_needed raw_point_at (tree_of node.entry)
+        (option_map tree_of found.entry) }
 {
     match found {
         None => Err(missing(node)),
-        Some(list) => spot_at(list),
+        Some(list) => raw_point_at(list),
     }
 }
 
 /// The size of `(HEAD SIZE)`.
-#[tactic(auto, unfolding(crate::specs::Numbers::size_at))]
+#[tactic(auto, unfolding(crate::specs::BoardNumbers::size_at))]
 pub(crate) fn size_at(list: Node<'_, '_>) -> Result<Nm, BoardError>
     ensures { result ≡ size_at (tree_of list.entry) }
 {

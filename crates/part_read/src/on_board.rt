@@ -3,7 +3,7 @@
 ghost use Rattle.std.specs.Prelude.{◌≡◌, true, ◌*ℤ◌, pos};
 ghost use Rattle.part_read.specs.OnBoard.{tested, fits_board, point_at, is_strip, strip_shape};
 
-use crate::numbers::Spot;
+use crate::numbers::RawPoint;
 use board_items::{Nm, is_near};
 use geo_seg::{Core, Point, Seg, Shape};
 use plain_types::is_length;
@@ -11,37 +11,37 @@ use plain_types::is_length;
 /// A line, with all that lies within half its width, in nanometres. It may lie off the board.
 #[derive(Clone, Copy, Debug, PartialEq, Eq, Drop)]
 pub struct Strip {
-    pub a: Spot,
-    pub b: Spot,
+    pub a: RawPoint,
+    pub b: RawPoint,
     pub width: Nm,
 }
 
-/// Whether the spot is at most 500 mm from 0 in x and in y.
-pub fn fits_board(spot: Spot) -> bool
-    ensures { result ≡ fits_board spot }
+/// Whether the raw point is at most 500 mm from 0 in x and in y.
+pub fn fits_board(raw_point: RawPoint) -> bool
+    ensures { result ≡ fits_board raw_point }
 {
-    is_near(spot.x) && is_near(spot.y)
+    is_near(raw_point.x) && is_near(raw_point.y)
 }
 
-/// The point at a spot, unless it lies off the board.
-pub fn point_at(spot: Spot) -> Option<Point>
-    ensures { result ≡ tested (fits_board spot) (point_at spot) }
+/// The point at a raw point, unless it lies off the board.
+pub fn point_at(raw_point: RawPoint) -> Option<Point>
+    ensures { result ≡ tested (fits_board raw_point) (point_at raw_point) }
 {
-    if fits_board(spot) {
-        return Some(doubled(spot));
+    if fits_board(raw_point) {
+        return Some(doubled(raw_point));
     }
     None
 }
 
-/// The point at a spot that lies on the board.
-fn doubled(spot: Spot) -> Point
-    requires { fits_board spot ≡ true }
-    ensures x { result.x ≡ pos 2 *ℤ spot.x }
-    ensures y { result.y ≡ pos 2 *ℤ spot.y }
+/// The point at a raw point that lies on the board.
+fn doubled(raw_point: RawPoint) -> Point
+    requires { fits_board raw_point ≡ true }
+    ensures x { result.x ≡ pos 2 *ℤ raw_point.x }
+    ensures y { result.y ≡ pos 2 *ℤ raw_point.y }
 {
     Point {
-        x: 2 * spot.x,
-        y: 2 * spot.y,
+        x: 2 * raw_point.x,
+        y: 2 * raw_point.y,
     }
 }
 

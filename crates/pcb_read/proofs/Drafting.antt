@@ -9,20 +9,20 @@ use Rattle.copper_layers.specs.declared.set.LayerSet.{LayerSet}
 use Rattle.copper_layers.specs.Layers.{is_within}
 use Rattle.board_items.specs.declared.item.Item.{Item}
 use Rattle.board_items.specs.Boards.{PlainBoard, name_of}
-use Rattle.list_read.specs.Answers.{◌>>=◌}
-use Rattle.list_read.specs.Heads.{place}
-use Rattle.list_read.specs.Elements.{element}
-use Rattle.part_read.specs.Elements.{in_needed, in_given, given_or, atom_of}
-use Rattle.part_read.specs.Numbers.{spot_of, size_at, size_of, number_in}
-use Rattle.part_read.specs.LayersOf.{layer_of, layers_through}
+use Rattle.list_read.specs.FirstRefusals.{◌>>=◌}
+use Rattle.list_read.specs.ListHeads.{place}
+use Rattle.list_read.specs.NamedElements.{element}
+use Rattle.part_read.specs.ElementResults.{in_needed, in_given, given_or, atom_of}
+use Rattle.part_read.specs.BoardNumbers.{raw_point_of, size_at, size_of, number_in}
+use Rattle.part_read.specs.BoardLayers.{layer_of, layers_through}
 use Rattle.part_read.specs.NetsOf.{declared_in, net_of}
-use Rattle.part_read.specs.Nodes.{Gives}
+use Rattle.part_read.specs.NodeResults.{Gives}
 use Rattle.part_read.specs.Graphics.{one_item}
 use Rattle.pcb_read.specs.declared.drafts.Draft.{Draft}
 use Rattle.pcb_read.specs.declared.sorts.Sort.{Sort}
 use Rattle.pcb_read.specs.declared.sorts.Sort.TheVariants.{Track, Via, Arc, Graphic, Curve, Text, Zone, Footprint}
 use Rattle.pcb_read.specs.Sorts.{sort_of}
-use Rattle.pcb_read.specs.ItemsOf.{in_room, SaysItems}
+use Rattle.pcb_read.specs.ItemsOf.{in_capacity, SaysItems}
 use Rattle.pcb_read.specs.Drafts.{number_given, net_given, track_draft, via_draft, item_of, item_on, draft_by, IsDraft}
 use Rattle.pcb_read.specs.Tracks.{track_of, via_of}
 use Rattle.pcb_read.proofs.OneReading.{same_ok}
@@ -130,38 +130,38 @@ module _ (tree : Tree) where
   pub track_number : (copper : LayerSet) (draft : Draft) → track_draft copper tree ≡ Ok draft → net_given tree ≡ Ok draft.net
   unfolding track_draft
   track_number copper draft h =
-      number_of (spot_of (codes "start") tree) (spot_of (codes "end") tree) (size_of (codes "width") tree) (layer_of copper tree) (net_given tree) _ draft (λ x y z w n. refl) h
+      number_of (raw_point_of (codes "start") tree) (raw_point_of (codes "end") tree) (size_of (codes "width") tree) (layer_of copper tree) (net_given tree) _ draft (λ x y z w n. refl) h
 
   pub via_number : (copper : LayerSet) (draft : Draft) → via_draft copper tree ≡ Ok draft → net_given tree ≡ Ok draft.net
   unfolding via_draft
   via_number copper draft h =
-      number_of (spot_of (codes "at") tree) (size_of (codes "size") tree) (in_given size_at (element (codes "drill") tree))
+      number_of (raw_point_of (codes "at") tree) (size_of (codes "size") tree) (in_given size_at (element (codes "drill") tree))
       (in_needed (layers_through copper) tree (element (codes "layers") tree)) (net_given tree) _ draft (λ x y z w n. refl) h
 
   module _ (board : PlainBoard) (unit : ℕ) where
     pub track_on : (draft : Draft) → track_draft board.copper tree ≡ Ok draft → track_of board unit tree ≡ item_on board unit tree draft
     unfolding track_draft track_of
     track_on draft h =
-        on_by (spot_of (codes "start") tree) (spot_of (codes "end") tree) (size_of (codes "width") tree) (layer_of board.copper tree) (net_given tree) (net_of board tree)
+        on_by (raw_point_of (codes "start") tree) (raw_point_of (codes "end") tree) (size_of (codes "width") tree) (layer_of board.copper tree) (net_given tree) (net_of board tree)
         _ _ (item_of unit tree) draft (λ x y z w n. refl) (net_same board net_element) h
 
     pub track_refused : (e : BoardError) → track_draft board.copper tree ≡ Err e → track_of board unit tree ≡ Err e
     unfolding track_draft track_of
     track_refused e h =
-        refused (spot_of (codes "start") tree) (spot_of (codes "end") tree) (size_of (codes "width") tree) (layer_of board.copper tree) (net_given tree) (net_of board tree)
+        refused (raw_point_of (codes "start") tree) (raw_point_of (codes "end") tree) (size_of (codes "width") tree) (layer_of board.copper tree) (net_given tree) (net_of board tree)
         _ _ e (net_refused board net_element) h
 
     pub via_on : (draft : Draft) → via_draft board.copper tree ≡ Ok draft → via_of board unit tree ≡ item_on board unit tree draft
     unfolding via_draft via_of
     via_on draft h =
-        on_by (spot_of (codes "at") tree) (size_of (codes "size") tree) (in_given size_at (element (codes "drill") tree))
+        on_by (raw_point_of (codes "at") tree) (size_of (codes "size") tree) (in_given size_at (element (codes "drill") tree))
         (in_needed (layers_through board.copper) tree (element (codes "layers") tree)) (net_given tree) (net_of board tree)
         _ _ (item_of unit tree) draft (λ x y z w n. refl) (net_same board net_element) h
 
     pub via_refused : (e : BoardError) → via_draft board.copper tree ≡ Err e → via_of board unit tree ≡ Err e
     unfolding via_draft via_of
     via_refused e h =
-        refused (spot_of (codes "at") tree) (size_of (codes "size") tree) (in_given size_at (element (codes "drill") tree))
+        refused (raw_point_of (codes "at") tree) (size_of (codes "size") tree) (in_given size_at (element (codes "drill") tree))
         (in_needed (layers_through board.copper) tree (element (codes "layers") tree)) (net_given tree) (net_of board tree)
         _ _ e (net_refused board net_element) h
 
@@ -195,15 +195,15 @@ module _ (tree : Tree) where
 
   -- a part whose draft is this one says the draft's item, on each board with its copper layers and its net
   pub said_by : (board : PlainBoard) (unit : ℕ) (draft : Draft) (sort : Option Sort) → draft_by sort board.copper tree ≡ Some draft → is_some (name_of board draft.net) ≡ true
-      → (own : Sort) × (sort ≡ Some own) × SaysItems board unit tree own (in_room board unit tree (one_item (item_of unit tree draft)))
+      → (own : Sort) × (sort ≡ Some own) × SaysItems board unit tree own (in_capacity board unit tree (one_item (item_of unit tree draft)))
   said_by board unit draft (Some Track) h known =
       let is = ok_of (track_draft board.copper tree) draft h in
       let same = sym (track_on board unit draft is ∙ item_there board unit draft (track_number board.copper draft is) known) in
-      (Track, refl, ap (λ (item : Result Item BoardError). in_room board unit tree (one_item item)) same)
+      (Track, refl, ap (λ (item : Result Item BoardError). in_capacity board unit tree (one_item item)) same)
   said_by board unit draft (Some Via) h known =
       let is = ok_of (via_draft board.copper tree) draft h in
       let same = sym (via_on board unit draft is ∙ item_there board unit draft (via_number board.copper draft is) known) in
-      (Via, refl, ap (λ (item : Result Item BoardError). in_room board unit tree (one_item item)) same)
+      (Via, refl, ap (λ (item : Result Item BoardError). in_capacity board unit tree (one_item item)) same)
   said_by board unit draft (Some Arc) h known = absurd cc
   said_by board unit draft (Some (Graphic kind)) h known = absurd cc
   said_by board unit draft (Some Curve) h known = absurd cc

@@ -1,5 +1,5 @@
 pub mod Making
-pub mod Rooming
+pub mod Capacities
 pub mod OneReading
 pub mod Parting
 pub mod Nearness

@@ -16,7 +16,7 @@ use Rattle.board_items.specs.declared.item.Item.{Item}
 use Rattle.board_items.specs.Measures.{HasLengths}
 use Rattle.board_items.proofs.MeasureLemmas.{via_lengths}
 use Rattle.copper_layers.specs.Layers.{is_within}
-use Rattle.board_items.specs.Parts.{hole_parts}
+use Rattle.board_items.specs.ItemParts.{hole_parts}
 use Rattle.board_items.specs.Boards.{PlainBoard, name_of, is_near, is_on_board, has_layers_of, is_admitted}
 use Rattle.part_read.specs.declared.on_board.Strip.{Strip}
 use Rattle.plain_types.proofs.LengthTests.{length_in_range}

@@ -8,35 +8,35 @@ use Rattle.copper_layers.specs.declared.set.LayerSet.{LayerSet}
 use Rattle.board_items.specs.declared.item.Item.{Item}
 use Rattle.board_items.specs.declared.item.About.TheVariants.{Text, FootZone}
 use Rattle.board_items.specs.Boards.{PlainBoard}
-use Rattle.part_read.specs.declared.numbers.Spot.{Spot}
-use Rattle.part_read.specs.declared.stances.Stance.{Stance}
+use Rattle.part_read.specs.declared.numbers.RawPoint.{RawPoint}
+use Rattle.part_read.specs.declared.placements.Placement.{Placement}
 use Rattle.part_read.specs.declared.drawings.GraphicKind.{GraphicKind}
 use Rattle.part_read.specs.declared.drawings.GraphicKind.TheVariants.{Line, Rect, Circle, Outline}
-use Rattle.part_read.specs.declared.graphics.Ground.{Ground}
-use Rattle.part_read.specs.declared.graphics.Ground.TheVariants.{Copper, Outlines, Front, Back, Elsewhere}
-use Rattle.list_read.specs.Answers.{◌>>=◌, needed, check}
-use Rattle.list_read.specs.Heads.{place, has_head}
-use Rattle.list_read.specs.Elements.{element}
-use Rattle.part_read.specs.Elements.{name_in}
-use Rattle.part_read.specs.Numbers.{spot_of}
-use Rattle.part_read.specs.LayersOf.{copper_in}
-use Rattle.part_read.specs.Drawings.{spots_among}
-use Rattle.part_read.specs.Graphics.{ground_of, graphic_by, curve_by, text_by, note_of}
-use Rattle.part_read.specs.Room.{has_room_after}
+use Rattle.part_read.specs.declared.graphics.LayerRole.{LayerRole}
+use Rattle.part_read.specs.declared.graphics.LayerRole.TheVariants.{Copper, Outlines, Front, Back, Elsewhere}
+use Rattle.list_read.specs.FirstRefusals.{◌>>=◌, needed, check}
+use Rattle.list_read.specs.ListHeads.{place, has_head}
+use Rattle.list_read.specs.NamedElements.{element}
+use Rattle.part_read.specs.ElementResults.{name_in}
+use Rattle.part_read.specs.BoardNumbers.{raw_point_of}
+use Rattle.part_read.specs.BoardLayers.{copper_in}
+use Rattle.part_read.specs.Drawings.{raw_points_among}
+use Rattle.part_read.specs.Graphics.{layer_role_of, graphic_by, curve_by, text_by, note_of}
+use Rattle.part_read.specs.Capacity.{has_capacity_after}
 use Rattle.pad_read.specs.declared.head.Head.{Head}
-use Rattle.pad_read.specs.Postures.{posture_of, quarters_of, clearance_of}
+use Rattle.pad_read.specs.LocalPlacements.{local_placement_of, quarters_of, clearance_of}
 use Rattle.pad_read.specs.PadOf.{pad_of}
 use Rattle.footprint_read.specs.declared.contents.Contents.{Contents}
 use Rattle.footprint_read.specs.declared.contents.Given.{Given}
 use Rattle.footprint_read.specs.declared.courts.Court.{Court}
 use Rattle.footprint_read.specs.FootHead.{side_by, side_of, says, second_text, reference_by, reference_of, head_of}
-use Rattle.footprint_read.specs.Courtyards.{line_side, rect_side, circle_side, spots_side, has_arc, outline_side, graphic_side}
-use Rattle.footprint_read.specs.FootprintOf.{given_at, giving, drawn_gives, arc_gives, drawn_kind, is_curve, is_writing, other_gives, kind_gives, child_gives, contents_then, children_give, body_of, court_notes, all_given, with_room, is_placed, finished, contents_of, SaysInside, SaysWithHead, FootprintSays}
-use Rattle.pcb_read.specs.Near.{IsPlacedInText}
-use Rattle.pcb_read.specs.Short.{IsShort, AllShort}
-use Rattle.pcb_read.proofs.Nearness.{Near, ShortIf, near_same, step, with_tree, by_test, near_needed, needed_short, near_check, near_place, parts_short, find_short, near_element, of_atom, near_spot_of, near_copper, near_spots}
+use Rattle.footprint_read.specs.Courtyards.{line_side, rect_side, circle_side, raw_points_side, has_arc, outline_side, graphic_side}
+use Rattle.footprint_read.specs.FootprintOf.{given_at, giving, drawn_gives, arc_gives, drawn_kind, is_curve, is_writing, other_gives, kind_gives, child_gives, contents_then, children_give, body_of, court_notes, all_given, with_reserved, is_placed, finished, contents_of, SaysInside, SaysWithHead, FootprintSays}
+use Rattle.pcb_read.specs.BoardRefusalPlaces.{IsPlacedInText}
+use Rattle.pcb_read.specs.ShortTrees.{IsShort, AllShort}
+use Rattle.pcb_read.proofs.Nearness.{Near, ShortIf, near_same, step, with_tree, by_test, near_needed, needed_short, near_check, near_place, parts_short, find_short, near_element, of_atom, near_raw_point_of, near_copper, near_raw_points}
 use Rattle.pcb_read.proofs.Nearby.{near_ground, near_graphic, near_curve, near_writing}
-use Rattle.pcb_read.proofs.NearPads.{near_posture, near_clearance, near_pad}
+use Rattle.pcb_read.proofs.NearPads.{near_local_placement, near_clearance, near_pad}
 
 -- ---- the head
 
@@ -67,42 +67,42 @@ near_head : (copper : LayerSet) (t : Tree) → IsShort t → Near (head_of coppe
 unfolding head_of
 near_head copper t h =
     step (side_of copper t) _ (near_side copper t h) (λ on_back.
-    step (posture_of t) _ (near_posture t h) (λ posture.
-    step (needed (Turned (place t)) (quarters_of posture.angle)) _ (near_needed (Turned (place t)) (quarters_of posture.angle) (near_place t h)) (λ quarter.
+    step (local_placement_of t) _ (near_local_placement t h) (λ local_placement.
+    step (needed (Turned (place t)) (quarters_of local_placement.angle)) _ (near_needed (Turned (place t)) (quarters_of local_placement.angle) (near_place t h)) (λ quarter.
     step (reference_of t) _ (near_reference t h) (λ reference.
     step (clearance_of t) _ (near_clearance t h) (λ clearance. tt)))))
 
 -- ---- courtyards
 
-near_line_side : (stance : Stance) (t : Tree) → IsShort t → Near (line_side stance t)
+near_line_side : (placement : Placement) (t : Tree) → IsShort t → Near (line_side placement t)
 unfolding line_side
-near_line_side stance t h =
-    step (spot_of (codes "start") t) _ (near_spot_of (codes "start") t h) (λ a. step (spot_of (codes "end") t) _ (near_spot_of (codes "end") t h) (λ b. tt))
+near_line_side placement t h =
+    step (raw_point_of (codes "start") t) _ (near_raw_point_of (codes "start") t h) (λ a. step (raw_point_of (codes "end") t) _ (near_raw_point_of (codes "end") t h) (λ b. tt))
 
 near_rect_side : (t : Tree) → IsShort t → Near (rect_side t)
 unfolding rect_side
 near_rect_side t h =
-    step (spot_of (codes "start") t) _ (near_spot_of (codes "start") t h) (λ a. step (spot_of (codes "end") t) _ (near_spot_of (codes "end") t h) (λ b. tt))
+    step (raw_point_of (codes "start") t) _ (near_raw_point_of (codes "start") t h) (λ a. step (raw_point_of (codes "end") t) _ (near_raw_point_of (codes "end") t h) (λ b. tt))
 
 near_circle_side : (t : Tree) → IsShort t → Near (circle_side t)
 unfolding circle_side
 near_circle_side t h =
-    step (spot_of (codes "center") t) _ (near_spot_of (codes "center") t h) (λ a. step (spot_of (codes "end") t) _ (near_spot_of (codes "end") t h) (λ b. tt))
+    step (raw_point_of (codes "center") t) _ (near_raw_point_of (codes "center") t h) (λ a. step (raw_point_of (codes "end") t) _ (near_raw_point_of (codes "end") t h) (λ b. tt))
 
-near_spots_side : (list : Tree) (curved : Bool) (spots : List Spot) → IsShort list → Near (spots_side list curved spots)
-near_spots_side list curved spots h = by_test curved _ _ tt (by_test (nat_le 3 (length spots)) _ _ tt (near_place list h))
+near_raw_points_side : (list : Tree) (curved : Bool) (raw_points : List RawPoint) → IsShort list → Near (raw_points_side list curved raw_points)
+near_raw_points_side list curved raw_points h = by_test curved _ _ tt (by_test (nat_le 3 (length raw_points)) _ _ tt (near_place list h))
 
 near_outline_side : (t : Tree) → IsShort t → Near (outline_side t)
 unfolding outline_side
 near_outline_side t h =
     with_tree (needed (Missing (place t)) (element (codes "pts") t)) _ (needed_short (Missing (place t)) (element (codes "pts") t) (near_place t h) (near_element (codes "pts") t h)) (λ list s.
-    step (spots_among true (parts list)) _ (near_spots true (parts list) (parts_short list s)) (λ spots. near_spots_side list (has_arc list) spots s))
+    step (raw_points_among true (parts list)) _ (near_raw_points true (parts list) (parts_short list s)) (λ raw_points. near_raw_points_side list (has_arc list) raw_points s))
 
-near_court : (stance : Stance) (kind : GraphicKind) (t : Tree) → IsShort t → Near (graphic_side stance kind t)
-near_court stance Line t h = near_line_side stance t h
-near_court stance Rect t h = near_rect_side t h
-near_court stance Circle t h = near_circle_side t h
-near_court stance Outline t h = near_outline_side t h
+near_court : (placement : Placement) (kind : GraphicKind) (t : Tree) → IsShort t → Near (graphic_side placement kind t)
+near_court placement Line t h = near_line_side placement t h
+near_court placement Rect t h = near_rect_side t h
+near_court placement Circle t h = near_circle_side t h
+near_court placement Outline t h = near_outline_side t h
 
 -- ---- what the children give, with the places of their lists
 
@@ -133,14 +133,14 @@ given_if false x y h k = k
 near_giving : (t : Tree) (answer : Result (List Item) BoardError) → IsShort t → Near answer → NearGiven (giving t answer)
 near_giving t answer h k = given_by answer _ k (λ items. at_near (place t) items (near_place t h))
 
-near_drawn : (board : PlainBoard) (unit : ℕ) (head : Head) (kind : GraphicKind) (t : Tree) (lies : Ground) → IsShort t → NearGiven (drawn_gives board unit head kind t lies)
-near_drawn board unit head kind t Front h = given_by (graphic_side head.stance kind t) _ (near_court head.stance kind t h) (λ side. tt)
-near_drawn board unit head kind t Back h = given_by (graphic_side head.stance kind t) _ (near_court head.stance kind t h) (λ side. tt)
-near_drawn board unit head kind t (Copper layer) h = near_giving t (graphic_by board unit head.stance kind t (Copper layer)) h (near_graphic board unit head.stance kind t (Copper layer) h)
-near_drawn board unit head kind t Outlines h = near_giving t (graphic_by board unit head.stance kind t Outlines) h (near_graphic board unit head.stance kind t Outlines h)
-near_drawn board unit head kind t Elsewhere h = near_giving t (graphic_by board unit head.stance kind t Elsewhere) h (near_graphic board unit head.stance kind t Elsewhere h)
+near_drawn : (board : PlainBoard) (unit : ℕ) (head : Head) (kind : GraphicKind) (t : Tree) (lies : LayerRole) → IsShort t → NearGiven (drawn_gives board unit head kind t lies)
+near_drawn board unit head kind t Front h = given_by (graphic_side head.placement kind t) _ (near_court head.placement kind t h) (λ side. tt)
+near_drawn board unit head kind t Back h = given_by (graphic_side head.placement kind t) _ (near_court head.placement kind t h) (λ side. tt)
+near_drawn board unit head kind t (Copper layer) h = near_giving t (graphic_by board unit head.placement kind t (Copper layer)) h (near_graphic board unit head.placement kind t (Copper layer) h)
+near_drawn board unit head kind t Outlines h = near_giving t (graphic_by board unit head.placement kind t Outlines) h (near_graphic board unit head.placement kind t Outlines h)
+near_drawn board unit head kind t Elsewhere h = near_giving t (graphic_by board unit head.placement kind t Elsewhere) h (near_graphic board unit head.placement kind t Elsewhere h)
 
-near_arc : (t : Tree) (lies : Ground) → IsShort t → NearGiven (arc_gives t lies)
+near_arc : (t : Tree) (lies : LayerRole) → IsShort t → NearGiven (arc_gives t lies)
 near_arc t Front h = tt
 near_arc t Back h = tt
 near_arc t (Copper layer) h = near_giving t (curve_by t (Copper layer)) h (near_curve t (Copper layer) h)
@@ -149,12 +149,12 @@ near_arc t Elsewhere h = near_giving t (curve_by t Elsewhere) h (near_curve t El
 
 near_other : (board : PlainBoard) (unit : ℕ) (t : Tree) → IsShort t → NearGiven (other_gives board unit t)
 near_other board unit t h =
-    given_if (is_curve t) _ _ (given_by (ground_of board.copper t) _ (near_ground board.copper t h) (λ lies. near_arc t lies h))
-    (given_if (is_writing t) _ _ (given_by (ground_of board.copper t) _ (near_ground board.copper t h) (λ lies. near_giving t (text_by unit Text t lies) h (near_writing unit Text t lies)))
+    given_if (is_curve t) _ _ (given_by (layer_role_of board.copper t) _ (near_ground board.copper t h) (λ lies. near_arc t lies h))
+    (given_if (is_writing t) _ _ (given_by (layer_role_of board.copper t) _ (near_ground board.copper t h) (λ lies. near_giving t (text_by unit Text t lies) h (near_writing unit Text t lies)))
     (given_if (has_head (codes "zone") t) _ _ (near_giving t (Ok (note_of (name_in t) unit FootZone [] ∷ [])) h tt) tt))
 
 near_kind : (board : PlainBoard) (unit : ℕ) (head : Head) (t : Tree) (o : Option GraphicKind) → IsShort t → NearGiven (kind_gives board unit head t o)
-near_kind board unit head t (Some kind) h = given_by (ground_of board.copper t) _ (near_ground board.copper t h) (λ lies. near_drawn board unit head kind t lies h)
+near_kind board unit head t (Some kind) h = given_by (layer_role_of board.copper t) _ (near_ground board.copper t h) (λ lies. near_drawn board unit head kind t lies h)
 near_kind board unit head t None h = near_other board unit t h
 
 near_child : (board : PlainBoard) (unit : ℕ) (head : Head) (t : Tree) → IsShort t → NearGiven (child_gives board unit head t)
@@ -174,9 +174,9 @@ near_children board unit head (t ∷ ts) h = near_then (child_gives board unit h
 
 -- ---- the whole
 
-near_room : (board : PlainBoard) (unit before : ℕ) (gs : List Given) → AllNear gs → Near (with_room board unit before gs)
-near_room board unit before [] h = tt
-near_room board unit before (g ∷ gs) h = by_test (has_room_after before board unit) _ _ (near_room board unit (suc before) gs h.1) h.0
+near_capacity : (board : PlainBoard) (unit before : ℕ) (gs : List Given) → AllNear gs → Near (with_reserved board unit before gs)
+near_capacity board unit before [] h = tt
+near_capacity board unit before (g ∷ gs) h = by_test (has_capacity_after before board unit) _ _ (near_capacity board unit (suc before) gs h.1) h.0
 
 near_all : (unit : ℕ) (head : Head) (t : Tree) (gs : List Given) (front back : Court) → AllNear gs → IsShort t → AllNear (all_given unit head t gs front back)
 near_all unit head t gs front back h k =
@@ -191,7 +191,7 @@ near_finished : (board : PlainBoard) (unit : ℕ) (head : Head) (t : Tree) (gs :
 unfolding finished
 near_finished board unit head t gs front back h k =
     step (check (OutOfBoard (place t)) (is_placed head front back)) _ (near_check (OutOfBoard (place t)) (is_placed head front back) (near_place t k)) (λ u.
-    step (with_room board unit 0 (all_given unit head t gs front back)) _ (near_room board unit 0 (all_given unit head t gs front back) (near_all unit head t gs front back h k)) (λ v. tt))
+    step (with_reserved board unit 0 (all_given unit head t gs front back)) _ (near_capacity board unit 0 (all_given unit head t gs front back) (near_all unit head t gs front back h k)) (λ v. tt))
 
 near_inside : (board : PlainBoard) (unit : ℕ) (head : Head) (t : Tree) (r : Result Contents BoardError) (answer : Result (List Item) BoardError) → NearGiven r → IsShort t → SaysInside board unit head t r answer → Near answer
 near_inside board unit head t (Err e) answer h k says = near_same says h

@@ -6,14 +6,14 @@ use Rattle.sexpr_read.specs.Tree.{Tree, parts, content, is_list}
 use Rattle.board_errors.specs.declared.errors.BoardError.{BoardError}
 use Rattle.board_errors.specs.declared.errors.BoardError.TheVariants.{Missing, BadNumber, OutOfBoard, Arc, Turned, PadShape, Ring}
 use Rattle.board_items.specs.Boards.{PlainBoard}
-use Rattle.part_read.specs.declared.stances.Stance.{Stance}
+use Rattle.part_read.specs.declared.placements.Placement.{Placement}
 use Rattle.part_read.specs.declared.drawings.GraphicKind.{GraphicKind}
-use Rattle.list_read.specs.Answers.{needed, check}
-use Rattle.list_read.specs.Heads.{place, is_text, has_head}
-use Rattle.list_read.specs.Elements.{element}
-use Rattle.part_read.specs.Elements.{in_needed, given_or, atom_or}
-use Rattle.part_read.specs.Numbers.{length_in, size_in, spot_at}
-use Rattle.part_read.specs.LayersOf.{layers_named}
+use Rattle.list_read.specs.FirstRefusals.{needed, check}
+use Rattle.list_read.specs.ListHeads.{place, is_text, has_head}
+use Rattle.list_read.specs.NamedElements.{element}
+use Rattle.part_read.specs.ElementResults.{in_needed, given_or, atom_or}
+use Rattle.part_read.specs.BoardNumbers.{length_in, size_in, raw_point_at}
+use Rattle.part_read.specs.BoardLayers.{layers_named}
 use Rattle.part_read.specs.NetsOf.{net_of}
 use Rattle.part_read.specs.Figures.{is_ring}
 use Rattle.part_read.specs.Drawings.{drawing_of}
@@ -21,30 +21,30 @@ use Rattle.pad_read.specs.declared.sizes.Sizes.{Sizes}
 use Rattle.pad_read.specs.declared.pads.PadWord.{PadWord}
 use Rattle.pad_read.specs.declared.pads.PadWord.TheVariants.{Circle, Rect, Oval, RoundRect, Custom}
 use Rattle.pad_read.specs.declared.head.Head.{Head}
-use Rattle.pad_read.specs.Postures.{angle_by, posture_at, posture_of, clearance_of}
+use Rattle.pad_read.specs.LocalPlacements.{angle_by, local_placement_at, local_placement_of, clearance_of}
 use Rattle.pad_read.specs.PadSizes.{least_of, sizes_at, sizes_of, oval_sizes, round_sizes, drilled_by, no_offset, drilling_at, no_drilling, drilling_of}
-use Rattle.pad_read.specs.PadShapes.{circle_cushion, least_number, share_of, ratio_in, round_radius}
+use Rattle.pad_read.specs.PadShapes.{circle_rounded_rect, least_number, share_of, ratio_in, round_radius}
 use Rattle.pad_read.specs.PadFrames.{type_by, type_of, word_by, word_of, is_there, quarter_of, frame_of}
 use Rattle.pad_read.specs.CustomPads.{anchor_by_word, anchor_of, primitive_kind, primitive_by, primitives_among, primitives_of}
 use Rattle.pad_read.specs.PadOf.{form_of, pad_of}
-use Rattle.pcb_read.specs.Short.{IsShort, AllShort}
-use Rattle.pcb_read.proofs.Nearness.{Near, ShortIf, step, by_test, near_needed, near_check, near_place, parts_short, get_short, near_element, of_atom, in_one, in_or, of_element, inner_short, near_read, near_length, near_size, near_spot, near_layers, near_net, near_drawing}
+use Rattle.pcb_read.specs.ShortTrees.{IsShort, AllShort}
+use Rattle.pcb_read.proofs.Nearness.{Near, ShortIf, step, by_test, near_needed, near_check, near_place, parts_short, get_short, near_element, of_atom, in_one, in_or, of_element, inner_short, near_read, near_length, near_size, near_raw_point, near_layers, near_net, near_drawing}
 
 in_atom_or : {A : Type 0} → (otherwise : A) (read : Tree → Result A BoardError) (found : Option Tree) → ShortIf found → ((a : Tree) → IsShort a → Near (read a)) → Near (atom_or otherwise read found)
 in_atom_or otherwise read found k f = in_or otherwise _ found k (λ a h. by_test (is_list a) (Ok otherwise) (read a) tt (f a h))
 
--- ---- postures and clearances
+-- ---- placements and clearances
 
 near_angle : (o : Option Tree) → ShortIf o → Near (angle_by o)
 near_angle o h = in_atom_or (pos 0) length_in o h near_length
 
-near_posture_at : (t : Tree) → IsShort t → Near (posture_at t)
-unfolding posture_at
-near_posture_at t h =
-    step (spot_at t) _ (near_spot t h) (λ s. step (angle_by (slice_get (parts t) 3)) _ (near_angle (slice_get (parts t) 3) (get_short (parts t) 3 (parts_short t h))) (λ a. tt))
+near_local_placement_at : (t : Tree) → IsShort t → Near (local_placement_at t)
+unfolding local_placement_at
+near_local_placement_at t h =
+    step (raw_point_at t) _ (near_raw_point t h) (λ s. step (angle_by (slice_get (parts t) 3)) _ (near_angle (slice_get (parts t) 3) (get_short (parts t) 3 (parts_short t h))) (λ a. tt))
 
-pub near_posture : (t : Tree) → IsShort t → Near (posture_of t)
-near_posture t h = in_one posture_at t (element (codes "at") t) h (near_element (codes "at") t h) near_posture_at
+pub near_local_placement : (t : Tree) → IsShort t → Near (local_placement_of t)
+near_local_placement t h = in_one local_placement_at t (element (codes "at") t) h (near_element (codes "at") t h) near_local_placement_at
 
 pub near_clearance : (t : Tree) → IsShort t → Near (clearance_of t)
 unfolding clearance_of
@@ -72,7 +72,7 @@ near_drilling_at : (t : Tree) → IsShort t → Near (drilling_at t)
 unfolding drilling_at
 near_drilling_at t h =
     step (drilled_by t (slice_get (parts t) 1)) _ (near_drilled t (slice_get (parts t) 1) h (get_short (parts t) 1 (parts_short t h))) (λ s.
-    step (given_or no_offset spot_at (element (codes "offset") t)) _ (of_element (codes "offset") no_offset spot_at t h near_spot) (λ o. tt))
+    step (given_or no_offset raw_point_at (element (codes "offset") t)) _ (of_element (codes "offset") no_offset raw_point_at t h near_raw_point) (λ o. tt))
 
 near_drilling : (t : Tree) → IsShort t → Near (drilling_of t)
 near_drilling t h = of_element (codes "drill") no_drilling drilling_at t h near_drilling_at
@@ -89,15 +89,15 @@ near_word t h =
     step (needed (PadShape (place t)) (word_by a)) _ (near_needed (PadShape (place t)) (word_by a) (near_place t h)) (λ w.
     step (check (PadShape (place t)) (not (is_there (element (codes "chamfer") t)))) _ (near_check (PadShape (place t)) (not (is_there (element (codes "chamfer") t))) (near_place t h)) (λ u. tt)))
 
-near_frame : (stance : Stance) (t : Tree) → IsShort t → Near (frame_of stance t)
+near_frame : (placement : Placement) (t : Tree) → IsShort t → Near (frame_of placement t)
 unfolding frame_of
-near_frame stance t h =
+near_frame placement t h =
     step (type_of t) _ (near_type t h) (λ type.
     step (word_of t) _ (near_word t h) (λ word.
-    step (posture_of t) _ (near_posture t h) (λ posture.
+    step (local_placement_of t) _ (near_local_placement t h) (λ local_placement.
     step (sizes_of t) _ (near_sizes t h) (λ sizes.
     step (drilling_of t) _ (near_drilling t h) (λ drilling.
-    step (needed (Turned (place t)) (quarter_of word drilling type posture.angle)) _ (near_needed (Turned (place t)) (quarter_of word drilling type posture.angle) (near_place t h)) (λ q. tt))))))
+    step (needed (Turned (place t)) (quarter_of word drilling type local_placement.angle)) _ (near_needed (Turned (place t)) (quarter_of word drilling type local_placement.angle) (near_place t h)) (λ q. tt))))))
 
 -- ---- forms
 
@@ -120,7 +120,7 @@ near_anchor_word pad s a h = by_test (is_text a (codes "circle")) _ _ tt (by_tes
 near_anchor : (s : Sizes) (pad : Tree) → IsShort pad → Near (anchor_of s pad)
 unfolding anchor_of
 near_anchor s pad h =
-    in_or (circle_cushion s) _ (option_and_then (element (codes "anchor")) (element (codes "options") pad)) (inner_short (codes "anchor") (element (codes "options") pad) (near_element (codes "options") pad h))
+    in_or (circle_rounded_rect s) _ (option_and_then (element (codes "anchor")) (element (codes "options") pad)) (inner_short (codes "anchor") (element (codes "options") pad) (near_element (codes "options") pad h))
     (λ t k. of_atom 1 t (anchor_by_word pad s) k (λ a u. near_anchor_word pad s a h))
 
 near_primitive : (pad t : Tree) (o : Option GraphicKind) → IsShort pad → IsShort t → Near (primitive_by pad t o)
@@ -150,7 +150,7 @@ pub near_pad : (board : PlainBoard) (unit : ℕ) (head : Head) (t : Tree) → Is
 unfolding pad_of
 near_pad board unit head t h =
     of_atom 1 t _ h (λ number s.
-    step (frame_of head.stance t) _ (near_frame head.stance t h) (λ frame.
+    step (frame_of head.placement t) _ (near_frame head.placement t h) (λ frame.
     step (in_needed (layers_named board.copper) t (element (codes "layers") t)) _ (in_one (layers_named board.copper) t (element (codes "layers") t) h (near_element (codes "layers") t h) (near_layers board.copper)) (λ layers.
     step (form_of frame.word frame.sizes t) _ (near_form frame.word frame.sizes t h) (λ form.
     step (net_of board t) _ (near_net board t h) (λ net.

@@ -11,19 +11,19 @@ use Rattle.copper_layers.specs.declared.set.LayerSet.{LayerSet}
 use Rattle.board_items.specs.declared.item.Item.{Item}
 use Rattle.board_items.specs.Boards.{PlainBoard, name_of}
 use Rattle.copper_layers.specs.Layers.{has_layer}
-use Rattle.part_read.specs.declared.numbers.Spot.{Spot}
+use Rattle.part_read.specs.declared.numbers.RawPoint.{RawPoint}
 use Rattle.part_read.specs.declared.drawings.GraphicKind.{GraphicKind}
 use Rattle.part_read.specs.declared.drawings.GraphicKind.TheVariants.{Line, Rect, Circle, Outline}
-use Rattle.list_read.specs.Answers.{◌>>=◌, needed, check}
-use Rattle.list_read.specs.Heads.{place, has_head}
-use Rattle.list_read.specs.Elements.{element}
-use Rattle.part_read.specs.Elements.{in_needed, given_or, in_given, atom_among, atom_of}
-use Rattle.part_read.specs.Numbers.{read_as, length_in, size_in, number_in, spot_at, spot_of, size_at, size_of}
-use Rattle.part_read.specs.LayersOf.{each_set, layer_number, ends_in_cu, layer_by, layer_in, copper_by, copper_in, layer_at, layer_of, layers_through, is_all_copper, is_outer, named, layers_named, drawn_on}
+use Rattle.list_read.specs.FirstRefusals.{◌>>=◌, needed, check}
+use Rattle.list_read.specs.ListHeads.{place, has_head}
+use Rattle.list_read.specs.NamedElements.{element}
+use Rattle.part_read.specs.ElementResults.{in_needed, given_or, in_given, atom_among, atom_of}
+use Rattle.part_read.specs.BoardNumbers.{read_as, length_in, size_in, number_in, raw_point_at, raw_point_of, size_at, size_of}
+use Rattle.part_read.specs.BoardLayers.{each_set, layer_number, ends_in_cu, layer_by, layer_in, copper_by, copper_in, layer_at, layer_of, layers_through, is_all_copper, is_outer, named, layers_named, drawn_on}
 use Rattle.part_read.specs.NetsOf.{declared_in, net_of}
-use Rattle.part_read.specs.Drawings.{spots_among, enough, corners_in, corners_of, width_list, width_of, fill_of, line_drawing, rect_drawing, circle_drawing, outline_drawing, drawing_of}
-use Rattle.pcb_read.specs.Near.{IsPlacedInText}
-use Rattle.pcb_read.specs.Short.{AreShort, IsShort, AllShort}
+use Rattle.part_read.specs.Drawings.{raw_points_among, enough, corners_in, corners_of, width_list, width_of, fill_of, line_drawing, rect_drawing, circle_drawing, outline_drawing, drawing_of}
+use Rattle.pcb_read.specs.BoardRefusalPlaces.{IsPlacedInText}
+use Rattle.pcb_read.specs.ShortTrees.{AreShort, IsShort, AllShort}
 
 -- ---- answers
 
@@ -150,13 +150,13 @@ unfolding number_in
 near_number a h =
     step (needed (BadNumber (place a)) (content a)) _ (near_needed (BadNumber (place a)) (content a) (near_place a h)) (λ text. near_read (BadNumber (place a)) (count_answer text) (near_place a h))
 
-pub near_spot : (t : Tree) → IsShort t → Near (spot_at t)
-unfolding spot_at
-near_spot t h =
+pub near_raw_point : (t : Tree) → IsShort t → Near (raw_point_at t)
+unfolding raw_point_at
+near_raw_point t h =
     of_atom 1 t _ h (λ a s. step (length_in a) _ (near_length a s) (λ x. of_atom 2 t _ h (λ b u. step (length_in b) _ (near_length b u) (λ y. tt))))
 
-pub near_spot_of : (head : List ℕ) (t : Tree) → IsShort t → Near (spot_of head t)
-near_spot_of head t h = in_one spot_at t (element head t) h (near_element head t h) near_spot
+pub near_raw_point_of : (head : List ℕ) (t : Tree) → IsShort t → Near (raw_point_of head t)
+near_raw_point_of head t h = in_one raw_point_at t (element head t) h (near_element head t h) near_raw_point
 
 pub near_size_at : (t : Tree) → IsShort t → Near (size_at t)
 unfolding size_at
@@ -222,19 +222,19 @@ near_net board t h = of_element (codes "net") 0 (declared_in board) t h (near_de
 
 -- ---- drawings
 
-pub near_spots : (curved : Bool) (ts : List Tree) → AllShort ts → Near (spots_among curved ts)
-near_spots curved [] h = tt
-near_spots curved (t ∷ ts) h =
+pub near_raw_points : (curved : Bool) (ts : List Tree) → AllShort ts → Near (raw_points_among curved ts)
+near_raw_points curved [] h = tt
+near_raw_points curved (t ∷ ts) h =
     by_test (has_head (codes "xy") t) _ _
-    (step (spot_at t) _ (near_spot t h.0) (λ spot. step (spots_among curved ts) _ (near_spots curved ts h.1) (λ spots. tt)))
-    (by_test (has_head (codes "arc") t && not curved) (Err (Arc (place t))) (spots_among curved ts) (near_place t h.0) (near_spots curved ts h.1))
+    (step (raw_point_at t) _ (near_raw_point t h.0) (λ raw_point. step (raw_points_among curved ts) _ (near_raw_points curved ts h.1) (λ raw_points. tt)))
+    (by_test (has_head (codes "arc") t && not curved) (Err (Arc (place t))) (raw_points_among curved ts) (near_place t h.0) (near_raw_points curved ts h.1))
 
-near_enough : (t : Tree) (spots : List Spot) → IsShort t → Near (enough t spots)
-near_enough t spots h = step (check (Missing (place t)) (nat_le 3 (length spots))) _ (near_check (Missing (place t)) (nat_le 3 (length spots)) (near_place t h)) (λ u. tt)
+near_enough : (t : Tree) (raw_points : List RawPoint) → IsShort t → Near (enough t raw_points)
+near_enough t raw_points h = step (check (Missing (place t)) (nat_le 3 (length raw_points))) _ (near_check (Missing (place t)) (nat_le 3 (length raw_points)) (near_place t h)) (λ u. tt)
 
 near_corners_in : (t : Tree) → IsShort t → Near (corners_in t)
 unfolding corners_in
-near_corners_in t h = step (spots_among false (parts t)) (enough t) (near_spots false (parts t) (parts_short t h)) (λ spots. near_enough t spots h)
+near_corners_in t h = step (raw_points_among false (parts t)) (enough t) (near_raw_points false (parts t) (parts_short t h)) (λ raw_points. near_enough t raw_points h)
 
 pub near_corners : (t : Tree) → IsShort t → Near (corners_of t)
 near_corners t h = in_one corners_in t (element (codes "pts") t) h (near_element (codes "pts") t h) near_corners_in
@@ -261,23 +261,23 @@ near_fill otherwise t h = of_element (codes "fill") otherwise _ t h (λ s k. of_
 near_line : (t : Tree) → IsShort t → Near (line_drawing t)
 unfolding line_drawing
 near_line t h =
-    step (spot_of (codes "start") t) _ (near_spot_of (codes "start") t h) (λ a.
-    step (spot_of (codes "end") t) _ (near_spot_of (codes "end") t h) (λ b.
+    step (raw_point_of (codes "start") t) _ (near_raw_point_of (codes "start") t h) (λ a.
+    step (raw_point_of (codes "end") t) _ (near_raw_point_of (codes "end") t h) (λ b.
     step (width_of t) _ (near_width t h) (λ w. tt)))
 
 near_rect : (t : Tree) → IsShort t → Near (rect_drawing t)
 unfolding rect_drawing
 near_rect t h =
-    step (spot_of (codes "start") t) _ (near_spot_of (codes "start") t h) (λ a.
-    step (spot_of (codes "end") t) _ (near_spot_of (codes "end") t h) (λ b.
+    step (raw_point_of (codes "start") t) _ (near_raw_point_of (codes "start") t h) (λ a.
+    step (raw_point_of (codes "end") t) _ (near_raw_point_of (codes "end") t h) (λ b.
     step (width_of t) _ (near_width t h) (λ w.
     step (fill_of false t) _ (near_fill false t h) (λ f. tt))))
 
 near_circle : (t : Tree) → IsShort t → Near (circle_drawing t)
 unfolding circle_drawing
 near_circle t h =
-    step (spot_of (codes "center") t) _ (near_spot_of (codes "center") t h) (λ a.
-    step (spot_of (codes "end") t) _ (near_spot_of (codes "end") t h) (λ b.
+    step (raw_point_of (codes "center") t) _ (near_raw_point_of (codes "center") t h) (λ a.
+    step (raw_point_of (codes "end") t) _ (near_raw_point_of (codes "end") t h) (λ b.
     step (width_of t) _ (near_width t h) (λ w.
     step (fill_of false t) _ (near_fill false t h) (λ f. tt))))
 

@@ -2,12 +2,12 @@
 use Rattle.std.proofs.Common.{◌≡◌, ◌∙◌, ap, sym, subst, ℕ, List, [], ◌∷◌, ◌⊎◌, inl, inr, Option, None, Some, Result, Ok, Err}
 use Rattle.sexpr_read.specs.Tree.{Tree, parts}
 use Rattle.sexpr_read.specs.Spelling.{Spells, SpellsAll}
-use Rattle.sexpr_read.specs.Refusals.{refusal_of_one, refusal_of_all}
+use Rattle.sexpr_read.specs.TreeRefusals.{refusal_of_one, refusal_of_all}
 use Rattle.board_errors.specs.declared.errors.BoardError.{BoardError}
 use Rattle.board_errors.specs.declared.errors.BoardError.TheVariants.{Text as TextRefused, OutOfMemory}
 use Rattle.board_items.specs.declared.item.Item.{Item}
 use Rattle.board_items.specs.Boards.{PlainBoard}
-use Rattle.list_read.specs.Answers.{◌>>=◌}
+use Rattle.list_read.specs.FirstRefusals.{◌>>=◌}
 use Rattle.list_read.proofs.Texts as texts
 use Rattle.footprint_read.proofs.OneAnswer.{one_answer}
 use Rattle.pcb_read.specs.declared.sorts.Sort.{Sort}

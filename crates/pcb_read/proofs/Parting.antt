@@ -4,17 +4,17 @@ use Rattle.std.proofs.lemmas.List.{append_assoc}
 use Rattle.sexpr_read.specs.declared.place.Span.{Span}
 use Rattle.sexpr_read.specs.Tree.{Tree, span}
 use Rattle.sexpr_read.specs.Spelling.{Spells}
-use Rattle.sexpr_read.specs.Refusals.{refusal_of_one}
+use Rattle.sexpr_read.specs.TreeRefusals.{refusal_of_one}
 use Rattle.board_errors.specs.declared.errors.BoardError.{BoardError}
 use Rattle.board_errors.specs.declared.errors.BoardError.TheVariants.{Text, OutOfMemory}
 use Rattle.board_items.specs.Boards.{PlainBoard}
 use Rattle.list_read.proofs.Texts.{tree_says}
 use Rattle.pcb_read.specs.declared.sorts.Sort.{Sort}
 use Rattle.pcb_read.specs.Sorts.{sort_of}
-use Rattle.pcb_read.specs.Answers.{LeavesSome}
+use Rattle.pcb_read.specs.RelatedResults.{LeavesSome}
 use Rattle.pcb_read.specs.BoardOf.{Reading, SaysWith, SaysPartBy, SaysPart, SaysBoard}
 use Rattle.pcb_read.specs.BoardText.{BoardSays}
-use Rattle.pcb_read.specs.Spans.{with_span, SaysSpans, GivesBoardWith}
+use Rattle.pcb_read.specs.UnitSpans.{with_span, SaysSpans, GivesBoardWith}
 
 pub part_says : (reading : Reading) (tree : Tree) (sort : Sort) (new : PlainBoard) (answer : Result (Unit {0}) BoardError) → sort_of tree ≡ Some sort
     → LeavesSome answer new (SaysWith reading.board tree sort) → LeavesSome answer (record { board = new; layered = reading.layered }) (SaysPart reading tree)

@@ -7,16 +7,16 @@ use Rattle.board_errors.specs.declared.errors.BoardError.TheVariants.{OutOfMemor
 use Rattle.copper_layers.specs.declared.set.LayerSet.{LayerSet}
 use Rattle.board_items.specs.declared.item.Item.{Item}
 use Rattle.board_items.specs.Boards.{PlainBoard, name_of}
-use Rattle.part_read.specs.Nodes.{Gives}
+use Rattle.part_read.specs.NodeResults.{Gives}
 use Rattle.part_read.specs.Graphics.{one_item}
 use Rattle.pcb_read.specs.declared.drafts.Draft.{Draft}
 use Rattle.pcb_read.specs.declared.slot.Slot.{Slot}
-use Rattle.pcb_read.specs.Answers.{LeavesSome}
+use Rattle.pcb_read.specs.RelatedResults.{LeavesSome}
 use Rattle.pcb_read.specs.Sorts.{sort_of}
-use Rattle.pcb_read.specs.ItemsOf.{in_room}
+use Rattle.pcb_read.specs.ItemsOf.{in_capacity}
 use Rattle.pcb_read.specs.BoardOf.{Reading, with_found, SaysWith, SaysPart, SaysParts}
 use Rattle.pcb_read.specs.Drafts.{item_of, draft_by, IsDraft}
-use Rattle.pcb_read.specs.Slots.{tree_in, AreSame}
+use Rattle.pcb_read.specs.PartSlots.{tree_in, AreSame}
 use Rattle.pcb_read.proofs.OneReading.{same_ok}
 use Rattle.pcb_read.proofs.Drafting.{said_by}
 use Rattle.pcb_read.proofs.Parting.{part_says}
@@ -61,15 +61,15 @@ leaves (Err e) new more (inr h) = inr (more (Err e) h)
 pub slot_says : (reading : Reading) (unit : ℕ) (tree : Tree) (copper : LayerSet) (draft : Draft) (answer : Result Item BoardError) (r : Result (Unit {0}) BoardError) (new : PlainBoard)
     → unit ≡ reading.board.next_unit → IsDraft copper tree draft → reading.board.copper ≡ copper → is_some (name_of reading.board draft.net) ≡ true
     → Gives answer (item_of unit tree draft)
-    → ((said : Result Item BoardError) → Gives answer said → LeavesSome r new (λ left. left ≡ with_found reading.board (in_room reading.board unit tree (one_item said))))
+    → ((said : Result Item BoardError) → Gives answer said → LeavesSome r new (λ left. left ≡ with_found reading.board (in_capacity reading.board unit tree (one_item said))))
     → LeavesSome r (record { board = new; layered = reading.layered }) (SaysPart reading tree)
 slot_says reading unit tree copper draft answer r new own drafted same known given added =
     let board = reading.board in
     let by : draft_by (sort_of tree) board.copper tree ≡ Some draft = subst (λ (set : LayerSet). draft_by (sort_of tree) set tree ≡ Some draft) (sym same) drafted.0 in
     let said = said_by tree board board.next_unit draft (sort_of tree) by known in
-    let found = in_room board board.next_unit tree (one_item (item_of board.next_unit tree draft)) in
+    let found = in_capacity board board.next_unit tree (one_item (item_of board.next_unit tree draft)) in
     let is : LeavesSome r new (λ left. left ≡ with_found board found) =
-    subst (λ (u : ℕ). LeavesSome r new (λ left. left ≡ with_found board (in_room board u tree (one_item (item_of u tree draft))))) own (added (item_of unit tree draft) given) in
+    subst (λ (u : ℕ). LeavesSome r new (λ left. left ≡ with_found board (in_capacity board u tree (one_item (item_of u tree draft))))) own (added (item_of unit tree draft) given) in
     part_says reading tree said.0 new r said.1 (leaves {P = λ left. left ≡ with_found board found} {Q = SaysWith board tree said.0} r new (λ left e. (found, said.2, e)) is)
 
 -- ---- one after the other

@@ -7,10 +7,10 @@ use Rattle.board_errors.specs.declared.errors.BoardError.{BoardError}
 use Rattle.board_errors.specs.declared.errors.BoardError.TheVariants.{NotABoard, Version, Missing}
 use Rattle.board_items.specs.declared.item.Item.{Item}
 use Rattle.board_items.specs.Boards.{PlainBoard, empty_board, with_item}
-use Rattle.list_read.specs.Answers.{◌>>=◌, needed, check}
-use Rattle.list_read.specs.Heads.{place, is_text, has_head}
-use Rattle.part_read.specs.Elements.{atom_of}
-use Rattle.part_read.specs.LayersOf.{layers_listed}
+use Rattle.list_read.specs.FirstRefusals.{◌>>=◌, needed, check}
+use Rattle.list_read.specs.ListHeads.{place, is_text, has_head}
+use Rattle.part_read.specs.ElementResults.{atom_of}
+use Rattle.part_read.specs.BoardLayers.{layers_listed}
 use Rattle.pcb_read.specs.declared.sorts.Sort.{Sort}
 use Rattle.pcb_read.specs.Nets.{with_net_of}
 use Rattle.pcb_read.specs.Sorts.{sort_of}

@@ -8,13 +8,13 @@ use Rattle.copper_layers.specs.declared.set.LayerSet.{LayerSet}
 use Rattle.copper_layers.specs.Layers.{single_layer, is_within}
 use Rattle.board_items.specs.declared.item.Item.{Item}
 use Rattle.board_items.specs.Boards.{PlainBoard, name_of}
-use Rattle.list_read.specs.Answers.{◌>>=◌, needed}
-use Rattle.list_read.specs.Heads.{place, has_word}
-use Rattle.list_read.specs.Elements.{element}
-use Rattle.part_read.specs.Elements.{name_in, in_needed, in_given, given_or, atom_of}
-use Rattle.part_read.specs.Numbers.{spot_of, size_at, size_of, number_in}
+use Rattle.list_read.specs.FirstRefusals.{◌>>=◌, needed}
+use Rattle.list_read.specs.ListHeads.{place, has_word}
+use Rattle.list_read.specs.NamedElements.{element}
+use Rattle.part_read.specs.ElementResults.{name_in, in_needed, in_given, given_or, atom_of}
+use Rattle.part_read.specs.BoardNumbers.{raw_point_of, size_at, size_of, number_in}
 use Rattle.part_read.specs.NetsOf.{net_of}
-use Rattle.part_read.specs.LayersOf.{layer_of, layers_through}
+use Rattle.part_read.specs.BoardLayers.{layer_of, layers_through}
 use Rattle.pcb_read.specs.declared.drafts.Draft.{Draft}
 use Rattle.pcb_read.specs.declared.drafts.Form.{Form}
 use Rattle.pcb_read.specs.declared.drafts.Form.TheVariants.{Track, Via}
@@ -37,8 +37,8 @@ net_given tree = given_or 0 number_given (element (codes "net") tree)
 -- what the list of a track says on a board with these copper layers
 unfoldable pub track_draft : LayerSet → Tree → Result Draft BoardError
 track_draft copper tree = do
-  start ← spot_of (codes "start") tree
-  end ← spot_of (codes "end") tree
+  start ← raw_point_of (codes "start") tree
+  end ← raw_point_of (codes "end") tree
   width ← size_of (codes "width") tree
   layer ← layer_of copper tree
   net ← net_given tree
@@ -47,7 +47,7 @@ track_draft copper tree = do
 -- what that of a via says
 unfoldable pub via_draft : LayerSet → Tree → Result Draft BoardError
 via_draft copper tree = do
-  at ← spot_of (codes "at") tree
+  at ← raw_point_of (codes "at") tree
   size ← size_of (codes "size") tree
   drill ← in_given size_at (element (codes "drill") tree)
   layers ← in_needed (layers_through copper) tree (element (codes "layers") tree)

@@ -3,10 +3,10 @@ use Rattle.std.specs.Prelude.{Result, Ok}
 use Rattle.sexpr_read.specs.Tree.{Tree}
 use Rattle.board_errors.specs.declared.errors.BoardError.{BoardError}
 use Rattle.board_items.specs.Boards.{PlainBoard, with_net}
-use Rattle.list_read.specs.Answers.{◌>>=◌}
-use Rattle.list_read.specs.Heads.{text_of}
-use Rattle.part_read.specs.Elements.{atom_of}
-use Rattle.part_read.specs.Numbers.{number_in}
+use Rattle.list_read.specs.FirstRefusals.{◌>>=◌}
+use Rattle.list_read.specs.ListHeads.{text_of}
+use Rattle.part_read.specs.ElementResults.{atom_of}
+use Rattle.part_read.specs.BoardNumbers.{number_in}
 
 -- (net NUMBER NAME)
 unfoldable pub with_net_of : PlainBoard → Tree → Result PlainBoard BoardError

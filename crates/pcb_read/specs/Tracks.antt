@@ -16,12 +16,12 @@ use Rattle.board_items.proofs.MeasureLemmas.{track_lengths, via_lengths}
 use Rattle.part_read.specs.declared.on_board.Strip.{Strip}
 use Rattle.pcb_read.specs.declared.items.Origin.{Origin}
 use Rattle.pcb_read.specs.declared.items.ViaForm.{ViaForm}
-use Rattle.list_read.specs.Answers.{◌>>=◌, needed}
-use Rattle.list_read.specs.Heads.{place, has_word}
-use Rattle.list_read.specs.Elements.{element}
-use Rattle.part_read.specs.Elements.{name_in, in_needed, in_given}
-use Rattle.part_read.specs.Numbers.{spot_of, size_at, size_of}
-use Rattle.part_read.specs.LayersOf.{layer_of, layers_through}
+use Rattle.list_read.specs.FirstRefusals.{◌>>=◌, needed}
+use Rattle.list_read.specs.ListHeads.{place, has_word}
+use Rattle.list_read.specs.NamedElements.{element}
+use Rattle.part_read.specs.ElementResults.{name_in, in_needed, in_given}
+use Rattle.part_read.specs.BoardNumbers.{raw_point_of, size_at, size_of}
+use Rattle.part_read.specs.BoardLayers.{layer_of, layers_through}
 use Rattle.part_read.specs.NetsOf.{net_of}
 use Rattle.plain_types.proofs.LengthTests.{length_in_range}
 use Rattle.part_read.specs.OnBoard.{tested, is_strip, strip_shape}
@@ -49,8 +49,8 @@ track_along strip origin = tested (is_strip strip) (λ fits. record {
 -- (segment (start X Y) (end X Y) (width W) (layer NAME) (net N) (tstamp NAME)): a line with half the width around it
 unfoldable pub track_of : PlainBoard → ℕ → Tree → Result Item BoardError
 track_of board unit tree = do
-  start ← spot_of (codes "start") tree
-  end ← spot_of (codes "end") tree
+  start ← raw_point_of (codes "start") tree
+  end ← raw_point_of (codes "end") tree
   width ← size_of (codes "width") tree
   layer ← layer_of board.copper tree
   net ← net_of board tree
@@ -107,7 +107,7 @@ via_at form origin = tested (is_via form) (λ fit. record {
 -- (via blind micro (at X Y) (size S) (drill D) (layers NAME NAME) (net N) (tstamp NAME)), the words if it is so: a disc
 unfoldable pub via_of : PlainBoard → ℕ → Tree → Result Item BoardError
 via_of board unit tree = do
-  at ← spot_of (codes "at") tree
+  at ← raw_point_of (codes "at") tree
   size ← size_of (codes "size") tree
   drill ← in_given size_at (element (codes "drill") tree)
   layers ← in_needed (layers_through board.copper) tree (element (codes "layers") tree)

@@ -5,13 +5,13 @@ ghost use Rattle.plain_types.specs.Limits.{IsInText, IsReadable};
 ghost use Rattle.board_errors.specs.declared.errors.BoardError.{BoardError};
 ghost use Rattle.board_items.specs.declared.item.Item.{Item};
 ghost use Rattle.sexpr_read.specs.Tree.{parts};
-ghost use Rattle.sexpr_read.specs.Views.{tree_of};
-ghost use Rattle.list_read.specs.Heads.{place};
-ghost use Rattle.list_read.specs.Near.{IsNearText};
-ghost use Rattle.list_read.specs.Nodes.{tree_in};
+ghost use Rattle.sexpr_read.specs.TreeViews.{tree_of};
+ghost use Rattle.list_read.specs.ListHeads.{place};
+ghost use Rattle.list_read.specs.RefusalPlaces.{IsNearText};
+ghost use Rattle.list_read.specs.FoundNodes.{tree_in};
 ghost use Rattle.part_read.specs.Ready.{AreReady};
-ghost use Rattle.pcb_read.specs.Answers.{GivesSome};
-ghost use Rattle.pcb_read.specs.Near.{IsPlacedInText};
+ghost use Rattle.pcb_read.specs.RelatedResults.{GivesSome};
+ghost use Rattle.pcb_read.specs.BoardRefusalPlaces.{IsPlacedInText};
 ghost use Rattle.pcb_read.specs.ItemText.{further, text_further, alone, SaysList, SaysAlone, SaysText, SaysItem};
 
 use crate::laws::one_list;
@@ -70,7 +70,8 @@ fn read_alone(
     unit: u32,
     forms: Node<'_, '_>,
 ) -> Result<Vec<Item>, BoardError>
-    ensures items { GivesSome result (SaysAlone board.now unit (alone (parts (tree_of forms.entry)))) }
+    ensures items { GivesSome result
+        (SaysAlone board.now unit (alone (parts (tree_of forms.entry)))) }
     ensures ready { IfOk result (λ items. AreReady board.now unit items.items) }
 {
     let form = alone(forms)?;
@@ -143,7 +144,7 @@ fn further(error: BoardError, by: u32) -> BoardError
 /// The text stands at `at` in a longer one, in which places are counted. Both have at most 33,554,432 bytes. The reasons are
 /// those of [`BoardError`], exactly where the text of a list (`specs/ItemText`) has them: what is no form, or not one list
 /// alone, is refused as `Text`, a list whose head is that of no item as `NotABoard`, and `TooMany` comes also where the unit is
-/// 4,294,967,295 and there is an item. Want of memory alone is free.
+/// 4,294,967,295 and there is an item. Running out of memory alone is free.
 pub fn read_item(
     alloc: Global,
     text: &[u8],
@@ -153,9 +154,11 @@ pub fn read_item(
 ) -> Result<Vec<Item>, BoardError>
     requires text { IsReadable text.now }
     requires at { IsInText at }
-    ensures says { MatchResult result (λ items. SaysItem board.now unit text.now at (Ok items.items))
+    ensures says { MatchResult result (λ items.
+        SaysItem board.now unit text.now at (Ok items.items))
         (λ e. (e ≡ BoardError.OutOfMemory) ⊎ SaysItem board.now unit text.now at (Err e)) }
-    ensures only { (answer : Result (List Item) BoardError) → SaysItem board.now unit text.now at answer →
+    ensures only { (answer : Result (List Item) BoardError)
+        → SaysItem board.now unit text.now at answer →
         MatchResult result (λ items. answer ≡ Ok items.items)
         (λ e. (e ≡ BoardError.OutOfMemory) ⊎ (answer ≡ Err e)) }
     ensures ready { IfOk result (λ items. AreReady board.now unit items.items) }

@@ -2,15 +2,15 @@
 
 ghost use Rattle.std.specs.Prelude.{◌≡◌, ◌<◌, ◌≤◌, suc, true, OnOk, OnErr, IfOk, IfErr, Result};
 ghost use Rattle.board_items.specs.Boards.{with_item, is_admitted};
-ghost use Rattle.board_items.specs.Refusals.{room_of};
-ghost use Rattle.sexpr_read.specs.Views.{tree_of};
+ghost use Rattle.board_items.specs.ItemRefusals.{capacity_of};
+ghost use Rattle.sexpr_read.specs.TreeViews.{tree_of};
 ghost use Rattle.board_errors.specs.declared.errors.BoardError.{BoardError};
 ghost use Rattle.board_items.specs.declared.item.Item.{Item};
-ghost use Rattle.part_read.specs.Nodes.{Gives};
+ghost use Rattle.part_read.specs.NodeResults.{Gives};
 ghost use Rattle.part_read.specs.Graphics.{one_item};
 ghost use Rattle.part_read.specs.Ready.{IsReady, AreReady};
-ghost use Rattle.pcb_read.specs.Answers.{LeavesSome};
-ghost use Rattle.pcb_read.specs.ItemsOf.{in_room};
+ghost use Rattle.pcb_read.specs.RelatedResults.{LeavesSome};
+ghost use Rattle.pcb_read.specs.ItemsOf.{in_capacity};
 ghost use Rattle.pcb_read.specs.BoardOf.{with_items, with_found, HasFirstOf};
 
 use board_items::{Board, BoardError, Item};
@@ -22,7 +22,7 @@ use sexpr_read::Node;
 fn add_item(board: &mut Board, item: Item) -> Result<(), BoardError>
     requires unit { item.unit < 4294967295 }
     requires admitted { is_admitted board.old item ≡ true }
-    requires room { 0 < room_of board.old }
+    requires capacity { 0 < capacity_of board.old }
     ensures added { OnOk result (board.new ≡ with_item board.old item) }
     ensures unchanged { OnErr result (board.new ≡ board.old) }
     ensures only { IfErr result (λ e. e ≡ BoardError.OutOfMemory) }
@@ -32,7 +32,7 @@ fn add_item(board: &mut Board, item: Item) -> Result<(), BoardError>
 }
 
 /// Appends the items of a unit in order. They are items that the board takes, one after another, as the readers give them.
-/// Want of memory is the one refusal; the board then has the first of them, or none, behind the items that it had, and is
+/// Running out of memory is the one refusal; the board then has the first of them, or none, behind the items that it had, and is
 /// else as it was.
 pub fn add_items(board: &mut Board, unit: u32, items: Vec<Item>) -> Result<(), BoardError>
     requires { AreReady board.old unit items.items }
@@ -57,11 +57,12 @@ pub(crate) fn add_one(
 ) -> Result<(), BoardError>
     requires { IfOk answer (IsReady board.old unit) }
     ensures read { (said : Result Item BoardError) → Gives answer said → LeavesSome result board.new
-        (λ left. left ≡ with_found board.old (in_room board.old unit (tree_of node.entry)
+        (λ left. left ≡ with_found board.old (in_capacity board.old unit (tree_of node.entry)
         (one_item said))) }
     ensures copper { OnOk result (board.new.copper ≡ board.old.copper) }
     ensures not_below { OnOk result (board.old.next_unit ≤ board.new.next_unit) }
-    ensures one_at_most { OnOk result (unit ≡ board.old.next_unit → board.new.next_unit ≤ suc board.old.next_unit) }
+    ensures one_at_most { OnOk result (unit ≡ board.old.next_unit
+        → board.new.next_unit ≤ suc board.old.next_unit) }
 {
     // A match moves the item less often than `?` does.
     match answer {

@@ -3,12 +3,12 @@
 
 ghost use Rattle.std.specs.Prelude.{◌≡◌, ◌<◌, ◌++◌, [], map, true, false, is_some, IfOk, IfSome, OnOk};
 ghost use Rattle.sexpr_read.specs.Tree.{parts};
-ghost use Rattle.sexpr_read.specs.Views.{tree_of, trees_left};
+ghost use Rattle.sexpr_read.specs.TreeViews.{tree_of, trees_left};
 ghost use Rattle.board_items.specs.Boards.{name_of};
-ghost use Rattle.pcb_read.specs.Answers.{LeavesSome};
+ghost use Rattle.pcb_read.specs.RelatedResults.{LeavesSome};
 ghost use Rattle.pcb_read.specs.BoardOf.{SaysPart, SaysParts};
 ghost use Rattle.pcb_read.specs.Drafts.{IsDraft};
-ghost use Rattle.pcb_read.specs.Slots.{tree_in, AreSame, IsNext, reading_of};
+ghost use Rattle.pcb_read.specs.PartSlots.{tree_in, AreSame, IsNext, reading_of};
 
 use crate::adding::add_one;
 use crate::drafts::{Draft, item_of};
@@ -77,7 +77,8 @@ fn next_block<'d>(
     left: &mut Children<'d, 'd>,
 ) -> Result<Vec<Slot<'d>>, AllocError>
     requires { 0 < most }
-    ensures block { IfOk result (λ block. map tree_in block.items ++ trees_left left.new ≡ trees_left left.old) }
+    ensures block { IfOk result (λ block.
+        map tree_in block.items ++ trees_left left.new ≡ trees_left left.old) }
     ensures last { IfOk result (λ block. block.items ≡ [] → trees_left left.old ≡ []) }
 {
     let mut block = Vec::with_capacity(alloc, most)?;
@@ -113,7 +114,8 @@ fn draft_next(
 
 /// Whether the board is as the draft needs it.
 fn holds(board: &Board, copper: LayerSet, draft: &Draft) -> bool
-    ensures { result ≡ true → (board.now.copper ≡ copper) × (is_some (name_of board.now draft.now.net)
+    ensures { result ≡ true → (board.now.copper ≡ copper)
+        × (is_some (name_of board.now draft.now.net)
         ≡ true) }
 {
     board.copper() == copper && board.net_name(draft.net).is_some()

@@ -3,10 +3,10 @@
 ghost use Rattle.std.specs.Prelude.{◌≡◌, true, is_some, option_map, IsTrue, Ok, Err, IfOk, IfErr, OnOk};
 ghost use Rattle.board_items.specs.Boards.{PlainBoard, name_of};
 ghost use Rattle.part_read.specs.NetsOf.{net_of};
-ghost use Rattle.sexpr_read.specs.Views.{tree_of};
-ghost use Rattle.part_read.specs.Nodes.{Gives};
+ghost use Rattle.sexpr_read.specs.TreeViews.{tree_of};
+ghost use Rattle.part_read.specs.NodeResults.{Gives};
 ghost use Rattle.part_read.specs.Ready.{IsReady};
-ghost use Rattle.part_read.specs.Elements.{given_or};
+ghost use Rattle.part_read.specs.ElementResults.{given_or};
 ghost use Rattle.copper_layers.specs.Layers.{is_within};
 ghost use Rattle.pcb_read.specs.Drafts.{number_given, net_given, item_of, item_on, FitsBoard};
 
@@ -55,7 +55,8 @@ pub(crate) fn item_of(
     draft: Draft,
 ) -> Result<Item, BoardError>
     ensures read { Gives result (item_of unit (tree_of node.entry) draft) }
-    ensures ready { (board : PlainBoard) → FitsBoard board draft → IfOk result (IsReady board unit) }
+    ensures ready { (board : PlainBoard) → FitsBoard board draft
+        → IfOk result (IsReady board unit) }
 {
     let form = draft.form;
     let origin = Origin {

@@ -9,7 +9,7 @@ ghost use Rattle.pcb_read.specs.Tracks.{track_along, is_hole, hole_through, via_
 use board_items::{Hole, Item, Nm, What};
 use copper_layers::LayerSet;
 use drc_io::Name;
-use part_read::{Spot, Strip, one_part, strip_shape};
+use part_read::{RawPoint, Strip, one_part, strip_shape};
 use std::alloc::Global;
 
 /// What an item has besides its place: its name, its unit, its net, and the layers of its copper.
@@ -49,7 +49,7 @@ pub(crate) fn track_along(alloc: Global, strip: Strip, origin: Origin) -> Option
 /// What a via is by its numbers and words, in nanometres. It may lie off the board.
 #[derive(Clone, Copy)]
 pub struct ViaForm {
-    pub at: Spot,
+    pub at: RawPoint,
     pub size: Nm,
     pub drill: Option<Nm>,
     pub micro: bool,

@@ -11,7 +11,8 @@ use sexpr_read::laws::one_tree;
 
 /// No text says two things.
 pub fn one_reading()
-    ensures { (text : List ℕ) (a b : Result PlainBoard BoardError) → BoardSays text a → BoardSays text b →
+    ensures { (text : List ℕ) (a b : Result PlainBoard BoardError) → BoardSays text a
+        → BoardSays text b →
         a ≡ b }
 {
     one_tree();

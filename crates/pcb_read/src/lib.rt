@@ -9,9 +9,9 @@ ghost use Rattle.plain_types.specs.Limits.{IsReadable};
 ghost use Rattle.board_errors.specs.declared.errors.BoardError.{BoardError};
 ghost use Rattle.board_items.specs.Boards.{PlainBoard};
 ghost use Rattle.pcb_read.specs.BoardText.{BoardSays};
-ghost use Rattle.sexpr_read.specs.Views.{root_of};
+ghost use Rattle.sexpr_read.specs.TreeViews.{root_of};
 ghost use Rattle.pcb_read.specs.BoardOf.{SaysBoard};
-ghost use Rattle.pcb_read.specs.Spans.{HasSpans, AreSpans, GivesBoardWith};
+ghost use Rattle.pcb_read.specs.UnitSpans.{HasSpans, AreSpans, GivesBoardWith};
 
 mod added;
 mod adding;
@@ -41,12 +41,13 @@ use std::thread::Threads;
 ///
 /// All nets and copper layers that the text lists are kept, and the items of its tracks, vias, graphics, texts, dimensions,
 /// zones and footprints (`specs/ItemsOf`); lists with other heads are passed over. The reasons are those of [`BoardError`],
-/// exactly where the board of a tree (`specs/BoardOf`) has them; want of memory alone is free.
+/// exactly where the board of a tree (`specs/BoardOf`) has them; running out of memory alone is free.
 pub fn read_board(alloc: Global, text: &[u8]) -> Result<Board, BoardError>
     requires { IsReadable text.now }
     ensures says { MatchResult result (λ board. BoardSays text.now (Ok board))
         (λ e. (e ≡ BoardError.OutOfMemory) ⊎ BoardSays text.now (Err e)) }
-    ensures only { (answer : Result PlainBoard BoardError) → BoardSays text.now answer → MatchResult result
+    ensures only { (answer : Result PlainBoard BoardError) → BoardSays text.now answer
+        → MatchResult result
         (λ board. answer ≡ Ok board) (λ e. (e ≡ BoardError.OutOfMemory) ⊎ (answer ≡ Err e)) }
 {
     match read_with_spans(alloc, text) {
@@ -66,7 +67,8 @@ pub fn read_board_by(
     requires { IsReadable text.now }
     ensures says { MatchResult result (λ board. BoardSays text.now (Ok board))
         (λ e. (e ≡ BoardError.OutOfMemory) ⊎ BoardSays text.now (Err e)) }
-    ensures only { (answer : Result PlainBoard BoardError) → BoardSays text.now answer → MatchResult result
+    ensures only { (answer : Result PlainBoard BoardError) → BoardSays text.now answer
+        → MatchResult result
         (λ board. answer ≡ Ok board) (λ e. (e ≡ BoardError.OutOfMemory) ⊎ (answer ≡ Err e)) }
 {
     if workers == 1 {
@@ -86,7 +88,8 @@ pub fn read_with_spans(alloc: Global, text: &[u8]) -> Result<(Board, Spans), Boa
     requires { IsReadable text.now }
     ensures says { MatchResult result (λ read. BoardSays text.now (Ok read.0))
         (λ e. (e ≡ BoardError.OutOfMemory) ⊎ BoardSays text.now (Err e)) }
-    ensures only { (answer : Result PlainBoard BoardError) → BoardSays text.now answer → MatchResult result
+    ensures only { (answer : Result PlainBoard BoardError) → BoardSays text.now answer
+        → MatchResult result
         (λ read. answer ≡ Ok read.0) (λ e. (e ≡ BoardError.OutOfMemory) ⊎ (answer ≡ Err e)) }
     ensures spans { IfOk result (λ read. HasSpans text.now read.1) }
     ensures each { IfOk result (λ read. length read.1 ≡ read.0.next_unit) }

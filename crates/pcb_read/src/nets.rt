@@ -1,8 +1,8 @@
 //! The list of nets at the root.
 
 ghost use Rattle.std.specs.Prelude.{◌≡◌, OnOk};
-ghost use Rattle.sexpr_read.specs.Views.{tree_of};
-ghost use Rattle.part_read.specs.Nodes.{Leaves};
+ghost use Rattle.sexpr_read.specs.TreeViews.{tree_of};
+ghost use Rattle.part_read.specs.NodeResults.{Leaves};
 ghost use Rattle.pcb_read.specs.Nets.{with_net_of};
 
 use board_items::{Board, BoardError};

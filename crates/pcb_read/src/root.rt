@@ -4,12 +4,12 @@ ghost use Rattle.std.specs.Prelude.{◌≡◌, ◌≤◌, ◌++◌, ◌∷◌, �
 ghost use Rattle.board_errors.specs.declared.errors.BoardError.{BoardError};
 ghost use Rattle.board_items.specs.Boards.{empty_board};
 ghost use Rattle.sexpr_read.specs.Tree.{parts, is_list};
-ghost use Rattle.sexpr_read.specs.Views.{tree_of};
-ghost use Rattle.part_read.specs.Nodes.{Leaves};
+ghost use Rattle.sexpr_read.specs.TreeViews.{tree_of};
+ghost use Rattle.part_read.specs.NodeResults.{Leaves};
 ghost use Rattle.sexpr_read.specs.declared.place.Span.{Span};
-ghost use Rattle.pcb_read.specs.Answers.{LeavesSome};
+ghost use Rattle.pcb_read.specs.RelatedResults.{LeavesSome};
 ghost use Rattle.pcb_read.specs.BoardOf.{with_layers, with_other, SaysWith, SaysPart, SaysParts, version_in, header_in, SaysBoard};
-ghost use Rattle.pcb_read.specs.Spans.{with_span, SaysSpans, AreSpans, GivesBoardWith};
+ghost use Rattle.pcb_read.specs.UnitSpans.{with_span, SaysSpans, AreSpans, GivesBoardWith};
 
 use crate::adding::{add_items, add_one};
 use crate::aside::read_parts_by;
@@ -205,7 +205,8 @@ fn read_spanned(
         with_span (record { board = board.old; layered = layered.old })
         (record { board = board.new; layered = layered.new }) (tree_of node.entry) others
         ≡ spans.new.items ++ others) }
-    ensures each { OnOk result (length spans.old.items ≡ board.old.next_unit → length spans.new.items
+    ensures each { OnOk result (length spans.old.items ≡ board.old.next_unit
+        → length spans.new.items
         ≡ board.new.next_unit) }
 {
     let unit = board.next_unit();
@@ -228,7 +229,8 @@ fn read_parts(
     ensures read { LeavesSome result (record { board = board.new; layered = layered.new })
         (SaysParts (record { board = board.old; layered = layered.old })
         (parts (tree_of root.entry))) }
-    ensures spans { IfOk result (λ spans. SaysSpans (record { board = board.old; layered = layered.old })
+    ensures spans { IfOk result (λ spans.
+        SaysSpans (record { board = board.old; layered = layered.old })
         (parts (tree_of root.entry)) spans.items) }
     ensures each { IfOk result (λ spans. length spans.items ≡ board.new.next_unit) }
 {
@@ -243,13 +245,14 @@ fn read_parts(
 fn new_board(alloc: Global, root: Node<'_, '_>) -> Result<Board, BoardError>
     ensures board { IfOk result (λ board. (board ≡ empty_board (record { bits = 0 })) ×
         (header_in (tree_of root.entry) ≡ Ok tt)) }
-    ensures refused { IfErr result (λ e. (e ≡ BoardError.OutOfMemory) ⊎ (header_in (tree_of root.entry) ≡ Err e)) }
+    ensures refused { IfErr result (λ e. (e ≡ BoardError.OutOfMemory)
+        ⊎ (header_in (tree_of root.entry) ≡ Err e)) }
 {
     check_header(root)?;
     let mut board = Board::new(alloc, LayerSet { bits: 0 })?;
     // Most parts are items: room for about all of them is made once.
-    let room = about_parts(root).min(board.left() as usize);
-    board.reserve(room)?;
+    let capacity = about_parts(root).min(board.left() as usize);
+    board.reserve(capacity)?;
     Ok(board)
 }
 

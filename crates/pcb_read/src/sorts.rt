@@ -1,7 +1,7 @@
 //! What a list of a board is, by its head.
 
 ghost use Rattle.std.specs.Prelude.{◌≡◌};
-ghost use Rattle.sexpr_read.specs.Views.{tree_of};
+ghost use Rattle.sexpr_read.specs.TreeViews.{tree_of};
 ghost use Rattle.pcb_read.specs.Sorts.{is_curve, is_writing, drawn_sort, sort_by, sort_of};
 
 use board_items::About;

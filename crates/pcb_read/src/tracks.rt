@@ -1,8 +1,8 @@
 //! Tracks and vias.
 
 ghost use Rattle.std.specs.Prelude.{IfOk, IsTrue};
-ghost use Rattle.sexpr_read.specs.Views.{tree_of};
-ghost use Rattle.part_read.specs.Nodes.{Gives};
+ghost use Rattle.sexpr_read.specs.TreeViews.{tree_of};
+ghost use Rattle.part_read.specs.NodeResults.{Gives};
 ghost use Rattle.part_read.specs.Ready.{IsReady};
 ghost use Rattle.pcb_read.specs.Tracks.{track_of, via_of};
 ghost use Rattle.copper_layers.specs.Layers.{is_within};
@@ -13,7 +13,7 @@ use crate::items::ViaForm;
 use board_items::{Board, BoardError, Item};
 use copper_layers::LayerSet;
 use list_read::{Wanted, find_elements, has_words, pick};
-use part_read::{Strip, layer_of, layers_through, name_in, size_given, size_of, spot_of};
+use part_read::{Strip, layer_of, layers_through, name_in, raw_point_of, size_given, size_of};
 use sexpr_read::Node;
 use std::alloc::Global;
 
@@ -41,8 +41,8 @@ pub(crate) fn track_draft(
 {
     let mut found = [None; 6];
     find_elements(node, &SEGMENT, &mut found);
-    let a = spot_of(node, pick(&found, 0))?;
-    let b = spot_of(node, pick(&found, 1))?;
+    let a = raw_point_of(node, pick(&found, 0))?;
+    let b = raw_point_of(node, pick(&found, 1))?;
     let width = size_of(node, pick(&found, 2))?;
     let layer = layer_of(copper, node, pick(&found, 3))?;
     let net = net_number(pick(&found, 4))?;
@@ -95,7 +95,7 @@ pub(crate) fn via_draft(
 {
     let mut found = [None; 6];
     find_elements(node, &VIA, &mut found);
-    let at = spot_of(node, pick(&found, 0))?;
+    let at = raw_point_of(node, pick(&found, 0))?;
     let size = size_of(node, pick(&found, 1))?;
     let drill = size_given(pick(&found, 2))?;
     let layers = layers_through(copper, node, pick(&found, 3))?;

@@ -80,7 +80,7 @@ impl Reason {
         }
     }
 
-    /// The same refusal at this byte of a text, where what was its place is its place in what stands there.
+    /// This refusal, placed at a byte of a text. What was its place becomes its place in what stands there.
     pub fn inside(self, at: u32) -> Reason
         ensures { result ≡ with_inner_place self at }
     {
@@ -202,13 +202,13 @@ pub trait HasReason {
     ghost use Rattle.std.specs.Prelude.{ℕ, ◌≡◌, ◌≤◌, length};
     ghost use Rattle.plain_types.specs.Reasons.{PlainReason};
 
-    /// Its reason.
+    /// Why it is refused, as contracts see it.
     ghost reason_of: { Self → PlainReason };
 
     /// How many causes its reason has at most.
     ghost depth: { ℕ };
 
-    /// Its reason.
+    /// Why it is refused: each cause with its name and its number, and the places.
     fn reason(&self) -> Reason
         ensures value { result ≡ reason_of self.now }
         ensures depth { length (reason_of self.now).causes ≤ depth };

@@ -1,5 +1,5 @@
 //! Runs numbered works by workers and prints what comes of it: whether two workers run side by side, the answers of 1, 2 and 64 workers,
-//! and what is tested after a test that wants for memory. The same by workers that steal, and whether one does.
+//! and what is tested after a test that runs out of memory. The same by workers that steal, and whether one does.
 #![tactic(auto)]
 
 ghost use Rattle.std.specs.Prelude.{◌<◌, ◌≤◌};
@@ -51,7 +51,7 @@ fn by_workers<R: AllocGlobal + Print + Threads + Sync>(rt: &R, workers: u32) -> 
     println!(rt; "{workers} workers: {count} answers, sum {sum}, {held} of {tiles} numbers held")
 }
 
-/// One worker and a test that wants for memory: the numbers behind it are drawn, and not tested.
+/// One worker and a test that runs out of memory: the numbers behind it are drawn, and not tested.
 fn out_of_memory<R: AllocGlobal + Print + Threads + Sync>(rt: &R) -> io::Result<()> {
     let gate = Calls::new();
     let work = Failing { count: 5, at: 2 };

@@ -44,7 +44,7 @@ pub fn by_workers<R: AllocGlobal + Print + Threads + Sync>(rt: &R, workers: u32)
     println!(rt; "stealing by {workers}: {count} answers, sum {sum}, {held} numbers held")
 }
 
-/// One worker and a test that wants for memory: the numbers behind it are taken, and not tested.
+/// One worker and a test that runs out of memory: the numbers behind it are taken, and not tested.
 pub fn out_of_memory<R: AllocGlobal + Print + Threads + Sync>(rt: &R) -> io::Result<()> {
     let gate = Calls::new();
     let work = Failing { count: 5, at: 2 };

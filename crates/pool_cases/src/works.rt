@@ -26,7 +26,7 @@ impl<'a> TileWork for Squares<'a> {
     }
 }
 
-/// Each number itself, but for one that always wants for memory.
+/// Each number itself, but for one that always runs out of memory.
 #[derive(Drop)]
 pub struct Failing {
     pub count: u32,

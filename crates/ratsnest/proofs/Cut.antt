@@ -7,11 +7,11 @@ use Rattle.std.proofs.lemmas.List.Elements.{Contains-get_or}
 use Rattle.std.proofs.lemmas.List.Sorted.{Contains-permutation, All-permutation}
 use Rattle.ratsnest.specs.declared.anchor.Anchor.{Anchor}
 use Rattle.ratsnest.specs.declared.link.Link.{Link}
-use Rattle.ratsnest.specs.declared.spot.Spot.{Spot}
+use Rattle.ratsnest.specs.declared.indexed_anchor.IndexedAnchor.{IndexedAnchor}
 use Rattle.ratsnest.specs.NestOf.{anchor_at, group_at, group_count, AnchorsRise, GroupsOccur, IsLink, InNest, Precedes}
 use Rattle.ratsnest.specs.Grow.{rank, link_at, rank_at}
-use Rattle.ratsnest.specs.Forest.{link_between, spot_at, no_spot, no_link, best_at, label_at, label_of, IsSpotOf, AreSpots, AreBestTo, IsUsable, IsIdle, IsJoining, AreOne}
-use Rattle.ratsnest.proofs.Spots.{between_at, group_is}
+use Rattle.ratsnest.specs.Forest.{link_between, indexed_anchor_at, no_indexed_anchor, no_link, best_at, label_at, label_of, IsIndexedAnchorOf, AreIndexedAnchors, AreBestTo, IsUsable, IsIdle, IsJoining, AreOne}
+use Rattle.ratsnest.proofs.IndexedAnchors.{between_at, group_is}
 use Rattle.ratsnest.proofs.Squares.{square_small}
 use Rattle.ratsnest.proofs.Theory.{chain_keeps}
 use Rattle.ratsnest.proofs.Order.{IsLink-at, ends_of, rank_from_first, rank_from_second, precedes_rank}
@@ -23,21 +23,21 @@ test_no : (x c : ℕ) → x ≢ c → nat_eq x c ≡ false
 test_no x c n = grind (arith, nat_tests)
 
 -- the anchors in another order
-pub spots_moved : (anchors : List Anchor) (spots moved : List Spot) → length spots ≡ length anchors →
-    ((k : ℕ) → k < length spots → IsSpotOf anchors k (spot_at spots k)) → IsPermutation spots moved → AreSpots anchors moved
-spots_moved anchors spots moved len each p =
-    let all : All (λ (s : Spot). (s.place < length anchors) × (s.anchor ≡ anchor_at anchors s.place)) moved =
-    All-permutation (λ (s : Spot). (s.place < length anchors) × (s.anchor ≡ anchor_at anchors s.place)) spots moved p
+pub indexed_anchors_moved : (anchors : List Anchor) (indexed_anchors moved : List IndexedAnchor) → length indexed_anchors ≡ length anchors →
+    ((k : ℕ) → k < length indexed_anchors → IsIndexedAnchorOf anchors k (indexed_anchor_at indexed_anchors k)) → IsPermutation indexed_anchors moved → AreIndexedAnchors anchors moved
+indexed_anchors_moved anchors indexed_anchors moved len each p =
+    let all : All (λ (s : IndexedAnchor). (s.place < length anchors) × (s.anchor ≡ anchor_at anchors s.place)) moved =
+    All-permutation (λ (s : IndexedAnchor). (s.place < length anchors) × (s.anchor ≡ anchor_at anchors s.place)) indexed_anchors moved p
     (λ k d h.
-    let s : IsSpotOf anchors k (get_or spots k d) = subst (λ (z : Spot). IsSpotOf anchors k z) (get_or_default spots k no_spot d h) (each k h) in
+    let s : IsIndexedAnchorOf anchors k (get_or indexed_anchors k d) = subst (λ (z : IndexedAnchor). IsIndexedAnchorOf anchors k z) (get_or_default indexed_anchors k no_indexed_anchor d h) (each k h) in
     (omega (arith, s.place, h, len), s.anchor ∙ sym (ap (anchor_at anchors) s.place))) in
     record {
-      within = λ k h. (all k no_spot h).0;
-      anchor = λ k h. (all k no_spot h).1;
+      within = λ k h. (all k no_indexed_anchor h).0;
+      anchor = λ k h. (all k no_indexed_anchor h).1;
       whole = λ j h.
-          let hj : j < length spots = omega (arith, len) in
-          let c = Contains-permutation spots moved (spot_at spots j) p (Contains-get_or spots j no_spot hj) in
-          (c.0, c.1, ap (λ (z : Spot). z.place) (get_or_default moved c.0 no_spot (spot_at spots j) c.1 ∙ c.2) ∙ (each j hj).place);
+          let hj : j < length indexed_anchors = omega (arith, len) in
+          let c = Contains-permutation indexed_anchors moved (indexed_anchor_at indexed_anchors j) p (Contains-get_or indexed_anchors j no_indexed_anchor hj) in
+          (c.0, c.1, ap (λ (z : IndexedAnchor). z.place) (get_or_default moved c.0 no_indexed_anchor (indexed_anchor_at indexed_anchors j) c.1 ∙ c.2) ∙ (each j hj).place);
     }
 
 module _ (anchors : List Anchor) (rise : AnchorsRise anchors) (few : length anchors < 4294967296) (labels : List ℕ) where
@@ -85,25 +85,25 @@ module _ (anchors : List Anchor) (rise : AnchorsRise anchors) (few : length anch
               ];
         }
 
-  module _ (spots : List Spot) (are : AreSpots anchors spots) where
-    between : (i j : ℕ) → i < length spots → j < length spots → link_between (spot_at spots i) (spot_at spots j) ≡ link_at anchors (spot_at spots i).place (spot_at spots j).place
-    between i j hi hj = between_at anchors (spot_at spots i) (spot_at spots j) (are.anchor i hi) (are.anchor j hj)
+  module _ (indexed_anchors : List IndexedAnchor) (are : AreIndexedAnchors anchors indexed_anchors) where
+    between : (i j : ℕ) → i < length indexed_anchors → j < length indexed_anchors → link_between (indexed_anchor_at indexed_anchors i) (indexed_anchor_at indexed_anchors j) ≡ link_at anchors (indexed_anchor_at indexed_anchors i).place (indexed_anchor_at indexed_anchors j).place
+    between i j hi hj = between_at anchors (indexed_anchor_at indexed_anchors i) (indexed_anchor_at indexed_anchors j) (are.anchor i hi) (are.anchor j hj)
 
-    label_is : (i : ℕ) → i < length spots → label_of labels (spot_at spots i) ≡ label_at labels (group_at anchors (spot_at spots i).place)
-    label_is i hi = ap (label_at labels) (group_is anchors (spot_at spots i) (are.anchor i hi))
+    label_is : (i : ℕ) → i < length indexed_anchors → label_of labels (indexed_anchor_at indexed_anchors i) ≡ label_at labels (group_at anchors (indexed_anchor_at indexed_anchors i).place)
+    label_is i hi = ap (label_at labels) (group_is anchors (indexed_anchor_at indexed_anchors i) (are.anchor i hi))
 
-    short : (i j : ℕ) → i < length spots → j < length spots → (link_between (spot_at spots i) (spot_at spots j)).square ≤ 2000000000000000000
+    short : (i j : ℕ) → i < length indexed_anchors → j < length indexed_anchors → (link_between (indexed_anchor_at indexed_anchors i) (indexed_anchor_at indexed_anchors j)).square ≤ 2000000000000000000
     unfolding link_between
     short i j hi hj =
-        let s : Spot = spot_at spots i in
-        let t : Spot = spot_at spots j in
+        let s : IndexedAnchor = indexed_anchor_at indexed_anchors i in
+        let t : IndexedAnchor = indexed_anchor_at indexed_anchors j in
         omega (arith, square_small s.anchor.x t.anchor.x s.anchor.x_in_range t.anchor.x_in_range, square_small s.anchor.y t.anchor.y s.anchor.y_in_range t.anchor.y_in_range)
 
-    shorter_than_none : (i j : ℕ) → i < length spots → j < length spots → rank no_link ≤ rank (link_between (spot_at spots i) (spot_at spots j)) → ⊥
+    shorter_than_none : (i j : ℕ) → i < length indexed_anchors → j < length indexed_anchors → rank no_link ≤ rank (link_between (indexed_anchor_at indexed_anchors i) (indexed_anchor_at indexed_anchors j)) → ⊥
     unfolding link_between
     shorter_than_none i j hi hj le =
-        let s : Spot = spot_at spots i in
-        let t : Spot = spot_at spots j in
+        let s : IndexedAnchor = indexed_anchor_at indexed_anchors i in
+        let t : IndexedAnchor = indexed_anchor_at indexed_anchors j in
         omega (
           arith,
           are.within i hi,
@@ -114,22 +114,22 @@ module _ (anchors : List Anchor) (rise : AnchorsRise anchors) (few : length anch
           square_small s.anchor.y t.anchor.y s.anchor.y_in_range t.anchor.y_in_range,
         )
 
-    module _ (skipped : ℕ) (best : List Link) (b : AreBestTo spots labels skipped (length spots) best) where
-      leaving_least : (c i j : ℕ) → c ≢ skipped → c < length best → i < length spots → j < length spots → best_at best c ≡ link_between (spot_at spots i) (spot_at spots j) →
+    module _ (skipped : ℕ) (best : List Link) (b : AreBestTo indexed_anchors labels skipped (length indexed_anchors) best) where
+      leaving_least : (c i j : ℕ) → c ≢ skipped → c < length best → i < length indexed_anchors → j < length indexed_anchors → best_at best c ≡ link_between (indexed_anchor_at indexed_anchors i) (indexed_anchor_at indexed_anchors j) →
           (p q : ℕ) → p < length anchors → q < length anchors → label_at labels (group_at anchors p) ≡ c → label_at labels (group_at anchors q) ≢ c →
-          rank_at anchors (spot_at spots i).place (spot_at spots j).place ≤ rank_at anchors p q
+          rank_at anchors (indexed_anchor_at indexed_anchors i).place (indexed_anchor_at indexed_anchors j).place ≤ rank_at anchors p q
       leaving_least c i j kept hc hi hj is p q hp hq lp lq =
           let u = are.whole p hp in
           let v = are.whole q hq in
-          let lu : label_of labels (spot_at spots u.0) ≡ c = label_is u.0 u.1 ∙ ap (λ z. label_at labels (group_at anchors z)) u.2 ∙ lp in
-          let lv : label_of labels (spot_at spots v.0) ≢ c = λ e. lq (sym (ap (λ z. label_at labels (group_at anchors z)) v.2) ∙ sym (label_is v.0 v.1) ∙ e) in
-          let le : rank (best_at best (label_of labels (spot_at spots u.0))) ≤ rank (link_between (spot_at spots u.0) (spot_at spots v.0)) =
+          let lu : label_of labels (indexed_anchor_at indexed_anchors u.0) ≡ c = label_is u.0 u.1 ∙ ap (λ z. label_at labels (group_at anchors z)) u.2 ∙ lp in
+          let lv : label_of labels (indexed_anchor_at indexed_anchors v.0) ≢ c = λ e. lq (sym (ap (λ z. label_at labels (group_at anchors z)) v.2) ∙ sym (label_is v.0 v.1) ∙ e) in
+          let le : rank (best_at best (label_of labels (indexed_anchor_at indexed_anchors u.0))) ≤ rank (link_between (indexed_anchor_at indexed_anchors u.0) (indexed_anchor_at indexed_anchors v.0)) =
           b.least u.0 v.0 u.1 v.1 (λ e. kept (sym lu ∙ e)) (λ e. lv (e ∙ lu)) in
-          let le' : rank (best_at best c) ≤ rank (link_between (spot_at spots u.0) (spot_at spots v.0)) =
-          subst (λ z. rank (best_at best z) ≤ rank (link_between (spot_at spots u.0) (spot_at spots v.0))) lu le in
-          let far : link_between (spot_at spots u.0) (spot_at spots v.0) ≡ link_at anchors p q =
-          between u.0 v.0 u.1 v.1 ∙ ap (λ z. link_at anchors z (spot_at spots v.0).place) u.2 ∙ ap (link_at anchors p) v.2 in
-          let near : best_at best c ≡ link_at anchors (spot_at spots i).place (spot_at spots j).place = is ∙ between i j hi hj in
+          let le' : rank (best_at best c) ≤ rank (link_between (indexed_anchor_at indexed_anchors u.0) (indexed_anchor_at indexed_anchors v.0)) =
+          subst (λ z. rank (best_at best z) ≤ rank (link_between (indexed_anchor_at indexed_anchors u.0) (indexed_anchor_at indexed_anchors v.0))) lu le in
+          let far : link_between (indexed_anchor_at indexed_anchors u.0) (indexed_anchor_at indexed_anchors v.0) ≡ link_at anchors p q =
+          between u.0 v.0 u.1 v.1 ∙ ap (λ z. link_at anchors z (indexed_anchor_at indexed_anchors v.0).place) u.2 ∙ ap (link_at anchors p) v.2 in
+          let near : best_at best c ≡ link_at anchors (indexed_anchor_at indexed_anchors i).place (indexed_anchor_at indexed_anchors j).place = is ∙ between i j hi hj in
           subst (λ (z : Link). rank z ≤ rank_at anchors p q) near (subst (λ (z : Link). rank (best_at best c) ≤ rank z) far le')
 
       pub best_usable : All (IsUsable anchors) best
@@ -142,10 +142,10 @@ module _ (anchors : List Anchor) (rise : AnchorsRise anchors) (few : length anch
               | inr f ↦
                   let i = f.0 in
                   let j = f.1 in
-                  let hi : i < length spots = f.2 in
-                  let hj : j < length spots = f.3 in
-                  let is : best_at best c ≡ link_at anchors (spot_at spots i).place (spot_at spots j).place = f.6 ∙ between i j hi hj in
-                  inr (subst (λ (z : Link). InNest anchors z) (sym is) (leaving_in_nest c (spot_at spots i).place (spot_at spots j).place (are.within i hi) (are.within j hj)
+                  let hi : i < length indexed_anchors = f.2 in
+                  let hj : j < length indexed_anchors = f.3 in
+                  let is : best_at best c ≡ link_at anchors (indexed_anchor_at indexed_anchors i).place (indexed_anchor_at indexed_anchors j).place = f.6 ∙ between i j hi hj in
+                  inr (subst (λ (z : Link). InNest anchors z) (sym is) (leaving_in_nest c (indexed_anchor_at indexed_anchors i).place (indexed_anchor_at indexed_anchors j).place (are.within i hi) (are.within j hj)
                   (sym (label_is i hi) ∙ f.4) (λ e. f.5 (label_is j hj ∙ e)) (leaving_least c i j kept hc hi hj f.6)))
             ]
           ])
@@ -157,16 +157,16 @@ module _ (anchors : List Anchor) (rise : AnchorsRise anchors) (few : length anch
         | inr f ↦
             let i = f.0 in
             let j = f.1 in
-            let hi : i < length spots = f.2 in
-            let hj : j < length spots = f.3 in
-            let is : best_at best c ≡ link_at anchors (spot_at spots i).place (spot_at spots j).place = f.6 ∙ between i j hi hj in
+            let hi : i < length indexed_anchors = f.2 in
+            let hj : j < length indexed_anchors = f.3 in
+            let is : best_at best c ≡ link_at anchors (indexed_anchor_at indexed_anchors i).place (indexed_anchor_at indexed_anchors j).place = f.6 ∙ between i j hi hj in
             absurd (elim (idle c hc) [
               | inl e ↦ omega (arith, e, ap (λ (z : Link). z.square) f.6, short i j hi hj)
               | inr e ↦
-                  let same : IsJoining anchors labels (link_at anchors (spot_at spots i).place (spot_at spots j).place) = subst (λ (z : Link). IsJoining anchors labels z) is e in
-                  let li : label_at labels (group_at anchors (spot_at spots i).place) ≡ c = sym (label_is i hi) ∙ f.4 in
-                  let lj : label_at labels (group_at anchors (spot_at spots j).place) ≢ c = λ q. f.5 (label_is j hj ∙ q) in
-                  elim (ends_of anchors (spot_at spots i).place (spot_at spots j).place) [
+                  let same : IsJoining anchors labels (link_at anchors (indexed_anchor_at indexed_anchors i).place (indexed_anchor_at indexed_anchors j).place) = subst (λ (z : Link). IsJoining anchors labels z) is e in
+                  let li : label_at labels (group_at anchors (indexed_anchor_at indexed_anchors i).place) ≡ c = sym (label_is i hi) ∙ f.4 in
+                  let lj : label_at labels (group_at anchors (indexed_anchor_at indexed_anchors j).place) ≢ c = λ q. f.5 (label_is j hj ∙ q) in
+                  elim (ends_of anchors (indexed_anchor_at indexed_anchors i).place (indexed_anchor_at indexed_anchors j).place) [
                     | inl q ↦ lj (sym (ap (λ z. label_at labels (group_at anchors z)) q.1) ∙ sym same ∙ ap (λ z. label_at labels (group_at anchors z)) q.0 ∙ li)
                     | inr q ↦ lj (sym (ap (λ z. label_at labels (group_at anchors z)) q.0) ∙ same ∙ ap (λ z. label_at labels (group_at anchors z)) q.1 ∙ li)
                   ]
@@ -174,10 +174,10 @@ module _ (anchors : List Anchor) (rise : AnchorsRise anchors) (few : length anch
       ]
 
       -- then nothing has another label than an anchor whose label is not passed over
-      idle_is_whole : ((k : ℕ) → k < length best → IsIdle anchors labels (best_at best k)) → (u v : ℕ) → u < length spots → v < length spots →
-          label_of labels (spot_at spots u) < length best → label_of labels (spot_at spots u) ≢ skipped → label_of labels (spot_at spots v) ≢ label_of labels (spot_at spots u) → ⊥
+      idle_is_whole : ((k : ℕ) → k < length best → IsIdle anchors labels (best_at best k)) → (u v : ℕ) → u < length indexed_anchors → v < length indexed_anchors →
+          label_of labels (indexed_anchor_at indexed_anchors u) < length best → label_of labels (indexed_anchor_at indexed_anchors u) ≢ skipped → label_of labels (indexed_anchor_at indexed_anchors v) ≢ label_of labels (indexed_anchor_at indexed_anchors u) → ⊥
       idle_is_whole idle u v hu hv fits kept apart =
-          shorter_than_none u v hu hv (subst (λ (z : Link). rank z ≤ rank (link_between (spot_at spots u) (spot_at spots v))) (idle_is_none idle (label_of labels (spot_at spots u)) fits)
+          shorter_than_none u v hu hv (subst (λ (z : Link). rank z ≤ rank (link_between (indexed_anchor_at indexed_anchors u) (indexed_anchor_at indexed_anchors v))) (idle_is_none idle (label_of labels (indexed_anchor_at indexed_anchors u)) fits)
           (b.least u v hu hv kept apart))
 
       pub idle_is_one : GroupsOccur anchors → length labels ≡ group_count anchors → length best ≡ length labels → ((g : ℕ) → g < length labels → label_at labels g < length labels) →
@@ -189,8 +189,8 @@ module _ (anchors : List Anchor) (rise : AnchorsRise anchors) (few : length anch
             let q = occur h (omega (arith, count)) in
             let u = are.whole p.0 p.1 in
             let v = are.whole q.0 q.1 in
-            let lu : label_of labels (spot_at spots u.0) ≡ label_at labels g = label_is u.0 u.1 ∙ ap (λ z. label_at labels (group_at anchors z)) u.2 ∙ ap (label_at labels) p.2 in
-            let lv : label_of labels (spot_at spots v.0) ≡ label_at labels h = label_is v.0 v.1 ∙ ap (λ z. label_at labels (group_at anchors z)) v.2 ∙ ap (label_at labels) q.2 in
+            let lu : label_of labels (indexed_anchor_at indexed_anchors u.0) ≡ label_at labels g = label_is u.0 u.1 ∙ ap (λ z. label_at labels (group_at anchors z)) u.2 ∙ ap (label_at labels) p.2 in
+            let lv : label_of labels (indexed_anchor_at indexed_anchors v.0) ≡ label_at labels h = label_is v.0 v.1 ∙ ap (λ z. label_at labels (group_at anchors z)) v.2 ∙ ap (label_at labels) q.2 in
             absurd (elim (cases_eq (label_at labels g) skipped) [
               | inl s ↦ idle_is_whole idle v.0 u.0 v.1 u.1 (omega (arith, lv, below h hh, len)) (λ e. n (s ∙ sym e ∙ lv)) (λ e. n (sym lu ∙ e ∙ lv))
               | inr s ↦ idle_is_whole idle u.0 v.0 u.1 v.1 (omega (arith, lu, below g hg, len)) (λ e. s (sym lu ∙ e)) (λ e. n (sym lu ∙ sym e ∙ lv))

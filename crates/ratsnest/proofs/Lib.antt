@@ -8,7 +8,7 @@ pub mod Waits
 pub mod Doubled
 pub mod Grown
 pub mod Whole
-pub mod Spots
+pub mod IndexedAnchors
 pub mod Near
 pub mod Counted
 pub mod Kept

@@ -4,13 +4,13 @@ use Rattle.std.proofs.lemmas.Bool.{cases_lt, cases_eq}
 use Rattle.std.proofs.lemmas.List.{get_or-set_same, get_or-set_other, get_or-replicate, get_or_past, length-set, length-replicate}
 use Rattle.ratsnest.specs.declared.anchor.Anchor.{Anchor}
 use Rattle.ratsnest.specs.declared.link.Link.{Link}
-use Rattle.ratsnest.specs.declared.spot.Spot.{Spot}
+use Rattle.ratsnest.specs.declared.indexed_anchor.IndexedAnchor.{IndexedAnchor}
 use Rattle.ratsnest.specs.declared.tree.Part.{Part}
 use Rattle.ratsnest.specs.declared.tree.Node.{Node}
 use Rattle.ratsnest.specs.NestOf.{square_of}
 use Rattle.ratsnest.specs.Grow.{rank}
-use Rattle.ratsnest.specs.Forest.{link_between, spot_at, label_of, IsDrawn, IsInside, IsNode, AreNodes, AreHalves, IsNamed, AreNames, IsPassed, IsLooked, AreBestTo, best_at, no_link}
-use Rattle.ratsnest.proofs.Spots.{farther_is_more}
+use Rattle.ratsnest.specs.Forest.{link_between, indexed_anchor_at, label_of, IsDrawn, IsLinkInside, IsNode, AreNodes, AreHalves, IsNamed, AreNames, IsPassed, IsLooked, AreBestTo, best_at, no_link}
+use Rattle.ratsnest.proofs.IndexedAnchors.{farther_is_more}
 
 pub halves_back : (part a b : Part) → AreHalves part a b → AreHalves part b a
 halves_back part a b h = record {
@@ -21,61 +21,61 @@ halves_back part a b h = record {
   b_less = h.a_less;
 }
 
-module _ (spots : List Spot) (labels : List ℕ) where
-  IsNamed-both : (low mid high c : ℕ) → IsNamed spots labels low mid c → IsNamed spots labels mid high c → IsNamed spots labels low high c
+module _ (indexed_anchors : List IndexedAnchor) (labels : List ℕ) where
+  IsNamed-both : (low mid high c : ℕ) → IsNamed indexed_anchors labels low mid c → IsNamed indexed_anchors labels mid high c → IsNamed indexed_anchors labels low high c
   IsNamed-both low mid high c a b = record { each = λ i lo hi h. elim (cases_lt i mid) [ inl l ↦ a.each i lo l h | inr g ↦ b.each i (omega arith) hi h ] }
 
-  pub named_of_both : (nodes : List Node) (names : List (Option ℕ)) → AreNames spots labels nodes names → (node left right name : ℕ) (w a b : Node) →
+  pub named_of_both : (nodes : List Node) (names : List (Option ℕ)) → AreNames indexed_anchors labels nodes names → (node left right name : ℕ) (w a b : Node) →
       left < length nodes → right < length nodes → ((d : Node) → get_or nodes node d ≡ w) → ((d : Node) → get_or nodes left d ≡ a) → ((d : Node) → get_or nodes right d ≡ b) →
       get_or names left None ≡ Some name → get_or names right None ≡ Some name → a.low ≡ w.low → a.high ≡ b.low → b.high ≡ w.high →
-      (d : Node) → IsNamed spots labels (get_or nodes node d).low (get_or nodes node d).high name
+      (d : Node) → IsNamed indexed_anchors labels (get_or nodes node d).low (get_or nodes node d).high name
   named_of_both nodes names are node left right name w a b hl hr wi ai bi nl nr low mid high d =
-      let p : IsNamed spots labels a.low a.high name = subst (λ (n : Node). IsNamed spots labels n.low n.high name) (ai d) (are left name d hl nl) in
-      let q : IsNamed spots labels b.low b.high name = subst (λ (n : Node). IsNamed spots labels n.low n.high name) (bi d) (are right name d hr nr) in
-      let p' : IsNamed spots labels w.low b.low name = subst (λ z. IsNamed spots labels z b.low name) low (subst (λ z. IsNamed spots labels a.low z name) mid p) in
-      let q' : IsNamed spots labels b.low w.high name = subst (λ z. IsNamed spots labels b.low z name) high q in
-      subst (λ (n : Node). IsNamed spots labels n.low n.high name) (sym (wi d)) (IsNamed-both w.low b.low w.high name p' q')
+      let p : IsNamed indexed_anchors labels a.low a.high name = subst (λ (n : Node). IsNamed indexed_anchors labels n.low n.high name) (ai d) (are left name d hl nl) in
+      let q : IsNamed indexed_anchors labels b.low b.high name = subst (λ (n : Node). IsNamed indexed_anchors labels n.low n.high name) (bi d) (are right name d hr nr) in
+      let p' : IsNamed indexed_anchors labels w.low b.low name = subst (λ z. IsNamed indexed_anchors labels z b.low name) low (subst (λ z. IsNamed indexed_anchors labels a.low z name) mid p) in
+      let q' : IsNamed indexed_anchors labels b.low w.high name = subst (λ z. IsNamed indexed_anchors labels b.low z name) high q in
+      subst (λ (n : Node). IsNamed indexed_anchors labels n.low n.high name) (sym (wi d)) (IsNamed-both w.low b.low w.high name p' q')
 
   -- all anchors of the part have the label
-  pub passed_named : (nodes : List Node) (names : List (Option ℕ)) → AreNames spots labels nodes names → (s : Spot) (k own low high : ℕ) (n : Node) (best : Link) →
-      k < length nodes → ((d : Node) → get_or nodes k d ≡ n) → n.low ≡ low → n.high ≡ high → get_or names k None ≡ Some own → IsPassed spots labels s own low high best
+  pub passed_named : (nodes : List Node) (names : List (Option ℕ)) → AreNames indexed_anchors labels nodes names → (s : IndexedAnchor) (k own low high : ℕ) (n : Node) (best : Link) →
+      k < length nodes → ((d : Node) → get_or nodes k d ≡ n) → n.low ≡ low → n.high ≡ high → get_or names k None ≡ Some own → IsPassed indexed_anchors labels s own low high best
   passed_named nodes names are s k own low high n best h is lo hi name = record {
     not_others = λ i a b l other.
-        let e : IsNamed spots labels n.low n.high own = subst (λ (z : Node). IsNamed spots labels z.low z.high own) (is n) (are k own n h name) in
+        let e : IsNamed indexed_anchors labels n.low n.high own = subst (λ (z : Node). IsNamed indexed_anchors labels z.low z.high own) (is n) (are k own n h name) in
         absurd (other (e.each i (omega (arith, lo, hi)) (omega (arith, lo, hi)) l));
   }
 
   -- the area of the part is too far
-  pub passed_far : (nodes : List Node) → AreNodes spots nodes → (s : Spot) (k own low high far : ℕ) (n : Node) (best : Link) →
+  pub passed_far : (nodes : List Node) → AreNodes indexed_anchors nodes → (s : IndexedAnchor) (k own low high far : ℕ) (n : Node) (best : Link) →
       k < length nodes → ((d : Node) → get_or nodes k d ≡ n) → n.low ≡ low → n.high ≡ high →
-      ((a : Anchor) → IsInside n.area a → far ≤ square_of s.anchor a) → rank best < far * 18446744073709551616 → IsPassed spots labels s own low high best
+      ((a : Anchor) → IsLinkInside n.area a → far ≤ square_of s.anchor a) → rank best < far * 18446744073709551616 → IsPassed indexed_anchors labels s own low high best
   passed_far nodes are s k own low high far n best h is lo hi least less = record {
     not_others = λ i a b l other.
-        let e : IsNode spots n = subst (λ (z : Node). IsNode spots z) (is n) (are k n h) in
-        farther_is_more best s (spot_at spots i) far (least (spot_at spots i).anchor (e.inside i (omega (arith, lo, hi)) (omega (arith, lo, hi)) l)) less;
+        let e : IsNode indexed_anchors n = subst (λ (z : Node). IsNode indexed_anchors z) (is n) (are k n h) in
+        farther_is_more best s (indexed_anchor_at indexed_anchors i) far (least (indexed_anchor_at indexed_anchors i).anchor (e.inside i (omega (arith, lo, hi)) (omega (arith, lo, hi)) l)) less;
   }
 
-  module _ (s : Spot) (own : ℕ) where
-    pub looked_none : (low high : ℕ) (best : Link) → IsPassed spots labels s own low high best → IsLooked spots labels s own low high best best
+  module _ (s : IndexedAnchor) (own : ℕ) where
+    pub looked_none : (low high : ℕ) (best : Link) → IsPassed indexed_anchors labels s own low high best → IsLooked indexed_anchors labels s own low high best best
     looked_none low high best p = record { choice = inl refl; not_old = omega arith; passed = p }
 
-    pub passed_none : (low : ℕ) (best : Link) → IsPassed spots labels s own low low best
+    pub passed_none : (low : ℕ) (best : Link) → IsPassed indexed_anchors labels s own low low best
     passed_none low best = record { not_others = λ i a b l other. absurd (omega arith) }
 
-    pub looked_own : (low i : ℕ) (old new : Link) → label_of labels (spot_at spots i) ≡ own → IsLooked spots labels s own low i old new → IsLooked spots labels s own low (i + 1) old new
+    pub looked_own : (low i : ℕ) (old new : Link) → label_of labels (indexed_anchor_at indexed_anchors i) ≡ own → IsLooked indexed_anchors labels s own low i old new → IsLooked indexed_anchors labels s own low (i + 1) old new
     looked_own low i old new same k = record {
       choice = k.choice;
       not_old = k.not_old;
       passed = record {
         not_others = λ j a b l other. elim (cases_eq j i) [
-          | inl e ↦ absurd (other (ap (λ z. label_of labels (spot_at spots z)) e ∙ same))
+          | inl e ↦ absurd (other (ap (λ z. label_of labels (indexed_anchor_at indexed_anchors z)) e ∙ same))
           | inr n ↦ k.passed.not_others j a (omega arith) l other
         ];
       };
     }
 
-    pub looked_drawn : (low i : ℕ) (old mid new : Link) → i < length spots → label_of labels (spot_at spots i) ≢ own → IsLooked spots labels s own low i old mid →
-        IsDrawn s (spot_at spots i) mid new → IsLooked spots labels s own low (i + 1) old new
+    pub looked_drawn : (low i : ℕ) (old mid new : Link) → i < length indexed_anchors → label_of labels (indexed_anchor_at indexed_anchors i) ≢ own → IsLooked indexed_anchors labels s own low i old mid →
+        IsDrawn s (indexed_anchor_at indexed_anchors i) mid new → IsLooked indexed_anchors labels s own low (i + 1) old new
     looked_drawn low i old mid new h other k d = record {
       choice = elim d.choice [
         | inl e ↦ elim k.choice [ inl f ↦ inl (e ∙ f) | inr f ↦ inr (f.0, f.1, f.2, e ∙ f.3) ]
@@ -84,14 +84,14 @@ module _ (spots : List Spot) (labels : List ℕ) where
       not_old = omega (arith, d.not_old, k.not_old);
       passed = record {
         not_others = λ j a b l ot. elim (cases_eq j i) [
-          | inl e ↦ subst (λ z. rank new ≤ rank (link_between s (spot_at spots z))) (sym e) d.not_other
+          | inl e ↦ subst (λ z. rank new ≤ rank (link_between s (indexed_anchor_at indexed_anchors z))) (sym e) d.not_other
           | inr n ↦ omega (arith, d.not_old, k.passed.not_others j a (omega arith) l ot)
         ];
       };
     }
 
-    pub looked_both : (part a b : Part) → AreHalves part a b → (old mid new : Link) → IsLooked spots labels s own a.low a.high old mid →
-        IsLooked spots labels s own b.low b.high mid new → IsLooked spots labels s own part.low part.high old new
+    pub looked_both : (part a b : Part) → AreHalves part a b → (old mid new : Link) → IsLooked indexed_anchors labels s own a.low a.high old mid →
+        IsLooked indexed_anchors labels s own b.low b.high mid new → IsLooked indexed_anchors labels s own part.low part.high old new
     looked_both part a b halves old mid new p q = record {
       choice = elim q.choice [
         | inl e ↦ elim p.choice [ inl f ↦ inl (e ∙ f) | inr f ↦ inr (f.0, f.1, f.2, e ∙ f.3) ]
@@ -107,24 +107,24 @@ module _ (spots : List Spot) (labels : List ℕ) where
     }
 
   -- a name more
-  pub names_set : (nodes : List Node) (names : List (Option ℕ)) → AreNames spots labels nodes names → (k : ℕ) (name : Option ℕ) → k < length names →
-      ((c : ℕ) → name ≡ Some c → (d : Node) → IsNamed spots labels (get_or nodes k d).low (get_or nodes k d).high c) → AreNames spots labels nodes (set names k name)
+  pub names_set : (nodes : List Node) (names : List (Option ℕ)) → AreNames indexed_anchors labels nodes names → (k : ℕ) (name : Option ℕ) → k < length names →
+      ((c : ℕ) → name ≡ Some c → (d : Node) → IsNamed indexed_anchors labels (get_or nodes k d).low (get_or nodes k d).high c) → AreNames indexed_anchors labels nodes (set names k name)
   names_set nodes names are k name h new j c d l is = elim (cases_eq j k) [
     | inl e ↦
         let n : name ≡ Some c = sym (get_or-set_same names k name None h) ∙ ap (λ z. get_or (set names k name) z None) (sym e) ∙ is in
-        subst (λ z. IsNamed spots labels (get_or nodes z d).low (get_or nodes z d).high c) (sym e) (new c n d)
+        subst (λ z. IsNamed indexed_anchors labels (get_or nodes z d).low (get_or nodes z d).high c) (sym e) (new c n d)
     | inr n ↦ are j c d l (sym (get_or-set_other names k j name None n) ∙ is)
   ]
 
-  pub names_none : (nodes : List Node) (n : ℕ) → AreNames spots labels nodes (replicate n None)
+  pub names_none : (nodes : List Node) (n : ℕ) → AreNames indexed_anchors labels nodes (replicate n None)
   names_none nodes n k c d h is = elim (cases_lt k n) [
     | inl l ↦ let e : Some c ≡ None = sym is ∙ get_or-replicate n k None None l in absurd cc
     | inr g ↦ let e : Some c ≡ None = sym is ∙ get_or_past (replicate n None) k None (omega (arith, length-replicate {A = Option ℕ} n None)) in absurd cc
   ]
 
   -- one anchor more
-  pub best_more : (skipped i own : ℕ) (best : List Link) (new : Link) → i < length spots → own ≡ label_of labels (spot_at spots i) → own < length best → own ≢ skipped →
-      AreBestTo spots labels skipped i best → IsLooked spots labels (spot_at spots i) own 0 (length spots) (best_at best own) new → AreBestTo spots labels skipped (i + 1) (set best own new)
+  pub best_more : (skipped i own : ℕ) (best : List Link) (new : Link) → i < length indexed_anchors → own ≡ label_of labels (indexed_anchor_at indexed_anchors i) → own < length best → own ≢ skipped →
+      AreBestTo indexed_anchors labels skipped i best → IsLooked indexed_anchors labels (indexed_anchor_at indexed_anchors i) own 0 (length indexed_anchors) (best_at best own) new → AreBestTo indexed_anchors labels skipped (i + 1) (set best own new)
   best_more skipped i own best new hi is ho kept b k = record {
     none = get_or-set_other best own skipped new no_link (λ q. kept (sym q)) ∙ b.none;
     choice = λ c h. elim (cases_eq c own) [
@@ -146,39 +146,39 @@ module _ (spots : List Spot) (labels : List ℕ) where
     ];
     least = λ p j hp hj far other.
         let own_at : best_at (set best own new) own ≡ new = get_or-set_same best own new no_link ho in
-        elim (cases_eq (label_of labels (spot_at spots p)) own) [
+        elim (cases_eq (label_of labels (indexed_anchor_at indexed_anchors p)) own) [
           | inl e ↦
-              let at : best_at (set best own new) (label_of labels (spot_at spots p)) ≡ new = ap (best_at (set best own new)) e ∙ own_at in
-              subst (λ (z : Link). rank z ≤ rank (link_between (spot_at spots p) (spot_at spots j))) (sym at) (elim (cases_eq p i) [
-                | inl q ↦ subst (λ z. rank new ≤ rank (link_between (spot_at spots z) (spot_at spots j))) (sym q) (k.passed.not_others j (omega arith) hj hj (λ z. other (z ∙ sym e)))
+              let at : best_at (set best own new) (label_of labels (indexed_anchor_at indexed_anchors p)) ≡ new = ap (best_at (set best own new)) e ∙ own_at in
+              subst (λ (z : Link). rank z ≤ rank (link_between (indexed_anchor_at indexed_anchors p) (indexed_anchor_at indexed_anchors j))) (sym at) (elim (cases_eq p i) [
+                | inl q ↦ subst (λ z. rank new ≤ rank (link_between (indexed_anchor_at indexed_anchors z) (indexed_anchor_at indexed_anchors j))) (sym q) (k.passed.not_others j (omega arith) hj hj (λ z. other (z ∙ sym e)))
                 | inr q ↦
-                    let was : rank (best_at best (label_of labels (spot_at spots p))) ≤ rank (link_between (spot_at spots p) (spot_at spots j)) = b.least p j (omega arith) hj far other in
-                    let was' : rank (best_at best own) ≤ rank (link_between (spot_at spots p) (spot_at spots j)) =
-                    subst (λ z. rank (best_at best z) ≤ rank (link_between (spot_at spots p) (spot_at spots j))) e was in
+                    let was : rank (best_at best (label_of labels (indexed_anchor_at indexed_anchors p))) ≤ rank (link_between (indexed_anchor_at indexed_anchors p) (indexed_anchor_at indexed_anchors j)) = b.least p j (omega arith) hj far other in
+                    let was' : rank (best_at best own) ≤ rank (link_between (indexed_anchor_at indexed_anchors p) (indexed_anchor_at indexed_anchors j)) =
+                    subst (λ z. rank (best_at best z) ≤ rank (link_between (indexed_anchor_at indexed_anchors p) (indexed_anchor_at indexed_anchors j))) e was in
                     omega (arith, k.not_old, was')
               ])
           | inr n ↦
-              let at : best_at (set best own new) (label_of labels (spot_at spots p)) ≡ best_at best (label_of labels (spot_at spots p)) =
-              get_or-set_other best own (label_of labels (spot_at spots p)) new no_link n in
-              subst (λ (z : Link). rank z ≤ rank (link_between (spot_at spots p) (spot_at spots j))) (sym at) (elim (cases_eq p i) [
-                | inl q ↦ absurd (n (ap (λ z. label_of labels (spot_at spots z)) q ∙ sym is))
+              let at : best_at (set best own new) (label_of labels (indexed_anchor_at indexed_anchors p)) ≡ best_at best (label_of labels (indexed_anchor_at indexed_anchors p)) =
+              get_or-set_other best own (label_of labels (indexed_anchor_at indexed_anchors p)) new no_link n in
+              subst (λ (z : Link). rank z ≤ rank (link_between (indexed_anchor_at indexed_anchors p) (indexed_anchor_at indexed_anchors j))) (sym at) (elim (cases_eq p i) [
+                | inl q ↦ absurd (n (ap (λ z. label_of labels (indexed_anchor_at indexed_anchors z)) q ∙ sym is))
                 | inr q ↦ b.least p j (omega arith) hj far other
               ])
         ];
   }
 
   -- an anchor more that has the label that is passed over
-  pub best_same : (skipped i : ℕ) (best : List Link) → label_of labels (spot_at spots i) ≡ skipped → AreBestTo spots labels skipped i best → AreBestTo spots labels skipped (i + 1) best
+  pub best_same : (skipped i : ℕ) (best : List Link) → label_of labels (indexed_anchor_at indexed_anchors i) ≡ skipped → AreBestTo indexed_anchors labels skipped i best → AreBestTo indexed_anchors labels skipped (i + 1) best
   best_same skipped i best is b = record {
     none = b.none;
     choice = b.choice;
     least = λ p j hp hj far other. elim (cases_eq p i) [
-      | inl q ↦ absurd (far (ap (λ z. label_of labels (spot_at spots z)) q ∙ is))
+      | inl q ↦ absurd (far (ap (λ z. label_of labels (indexed_anchor_at indexed_anchors z)) q ∙ is))
       | inr q ↦ b.least p j (omega arith) hj far other
     ];
   }
 
-  pub best_none : (skipped n : ℕ) (best : List Link) → best ≡ replicate n no_link → AreBestTo spots labels skipped 0 best
+  pub best_none : (skipped n : ℕ) (best : List Link) → best ≡ replicate n no_link → AreBestTo indexed_anchors labels skipped 0 best
   best_none skipped n best is =
       let each : (c : ℕ) → best_at best c ≡ no_link = λ c. elim (cases_lt c n) [
         | inl l ↦ ap (λ (z : List Link). best_at z c) is ∙ get_or-replicate n c no_link no_link l
@@ -187,6 +187,6 @@ module _ (spots : List Spot) (labels : List ℕ) where
       record { none = each skipped; choice = λ c h. inl (each c); least = λ i j h k far other. absurd (omega arith) }
 
   -- what a name says
-  pub named_some : (nodes : List Node) (k : ℕ) (name : Option ℕ) → IfSome name (λ c. (d : Node) → IsNamed spots labels (get_or nodes k d).low (get_or nodes k d).high c) →
-      (c : ℕ) → name ≡ Some c → (d : Node) → IsNamed spots labels (get_or nodes k d).low (get_or nodes k d).high c
-  named_some nodes k name h c e = subst (λ (z : Option ℕ). IfSome z (λ c. (d : Node) → IsNamed spots labels (get_or nodes k d).low (get_or nodes k d).high c)) e h
+  pub named_some : (nodes : List Node) (k : ℕ) (name : Option ℕ) → IfSome name (λ c. (d : Node) → IsNamed indexed_anchors labels (get_or nodes k d).low (get_or nodes k d).high c) →
+      (c : ℕ) → name ≡ Some c → (d : Node) → IsNamed indexed_anchors labels (get_or nodes k d).low (get_or nodes k d).high c
+  named_some nodes k name h c e = subst (λ (z : Option ℕ). IfSome z (λ c. (d : Node) → IsNamed indexed_anchors labels (get_or nodes k d).low (get_or nodes k d).high c)) e h

@@ -3,7 +3,7 @@ use Rattle.std.proofs.Common.{◌≡◌, ◌*◌, ◌≤◌, ℤ, pos, negsuc, �
 use Rattle.std.proofs.lemmas.Int.{ints, fits_signed_mul}
 use mir.Syntax.{w64}
 use Rattle.int_algebra.proofs.Scalars.{passed, clean}
-use Rattle.ratsnest.specs.Reach.{IsInReach}
+use Rattle.ratsnest.specs.CoordinateRange.{IsInReach}
 
 pub span : (a b : ℤ) → IsInReach a → IsInReach b → unsigned_abs (a -ℤ b) ≤ 1000000000
 span a b h k = omega (arith, ints, h.from, h.to, k.from, k.to)

@@ -32,8 +32,8 @@ module _ (anchors : List Anchor) where
   pub no_less_from : (i j k : ℕ) → StandsFor anchors i j → rank_at anchors i k ≤ rank_at anchors j k
   unfolding link_at
   no_less_from i j k s =
-      let spot : square_of (anchor_at anchors i) (anchor_at anchors k) ≡ square_of (anchor_at anchors j) (anchor_at anchors k) = rw (s.x, s.y) refl in
-      let same : square_between anchors (min i k) (max i k) ≡ square_between anchors (min j k) (max j k) = square_either i k ∙ spot ∙ sym (square_either j k) in
+      let indexed_anchor : square_of (anchor_at anchors i) (anchor_at anchors k) ≡ square_of (anchor_at anchors j) (anchor_at anchors k) = rw (s.x, s.y) refl in
+      let same : square_between anchors (min i k) (max i k) ≡ square_between anchors (min j k) (max j k) = square_either i k ∙ indexed_anchor ∙ sym (square_either j k) in
       let lo : min i k ≤ min j k = omega (arith, s.lower) in
       let hi : max i k ≤ max j k = omega (arith, s.lower) in
       omega (arith, same, lo, hi)

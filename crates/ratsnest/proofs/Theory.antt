@@ -1,8 +1,8 @@
 use Rattle.std.proofs.Common.{◌≡◌, ◌≢◌, ℕ, ◌+◌, ◌≤◌, ◌<◌, Bool, true, false, cond, nat_eq, List, [], ◌∷◌, ◌⊎◌, inl, inr, ⊎_elim, refl, sym, ◌∙◌, ap, ap₂, subst, true≢false, arith, eq-eqb, ne_eqb}
 use Rattle.ratsnest.specs.Mem.{Mem, Sub, Under, Drops}
 use Rattle.ratsnest.proofs.Members.{Sub-more, Sub-itself, Sub-mem, Sub-from_mem, Under-mem, Under-from_mem}
-use Rattle.ratsnest.specs.Chains.{Joins, Chain}
-use Rattle.ratsnest.specs.Chains.Chain.{here, step}
+use Rattle.ratsnest.specs.LinkChains.{Joins, Chain}
+use Rattle.ratsnest.specs.LinkChains.Chain.{here, step}
 use Rattle.std.proofs.lemmas.Bool.{cases_eq, cond-true, cond-false}
 
 -- the labels c, with the label of a put to that of b

@@ -2,7 +2,7 @@
 use Rattle.std.specs.Prelude.{◌≡◌, ◌≢◌, Contains, ℕ, ℤ, ◌+◌, ◌-◌, ◌≤◌, ◌<◌, ◌≤ℤ◌, ◌⊎◌, Bool, true, List, length, slice_index_or, count_by, Option, Some, None}
 use Rattle.ratsnest.specs.declared.anchor.Anchor.{Anchor}
 use Rattle.ratsnest.specs.declared.link.Link.{Link}
-use Rattle.ratsnest.specs.declared.spot.Spot.{Spot}
+use Rattle.ratsnest.specs.declared.indexed_anchor.IndexedAnchor.{IndexedAnchor}
 use Rattle.ratsnest.specs.declared.span.Span.{Span}
 use Rattle.ratsnest.specs.declared.area.Area.{Area}
 use Rattle.ratsnest.specs.declared.tree.Part.{Part}
@@ -13,15 +13,15 @@ use Rattle.ratsnest.specs.Grow.{rank, link_with_places}
 use Rattle.ratsnest.specs.NestOf.{nowhere, anchor_at, group_at, group_count, InNest}
 
 -- the link of two anchors
-unfoldable pub link_between : Spot → Spot → Link
+unfoldable pub link_between : IndexedAnchor → IndexedAnchor → Link
 link_between s t = link_with_places s.anchor s.place t.anchor t.place
 
 -- what stands past the end of a list
-abbrev pub no_spot : Spot
-no_spot = record { anchor = nowhere; place = 0 }
+abbrev pub no_indexed_anchor : IndexedAnchor
+no_indexed_anchor = record { anchor = nowhere; place = 0 }
 
-abbrev pub spot_at : List Spot → ℕ → Spot
-spot_at spots i = slice_index_or spots i no_spot
+abbrev pub indexed_anchor_at : List IndexedAnchor → ℕ → IndexedAnchor
+indexed_anchor_at indexed_anchors i = slice_index_or indexed_anchors i no_indexed_anchor
 
 -- longer than each link
 abbrev pub no_link : Link
@@ -31,18 +31,18 @@ abbrev pub best_at : List Link → ℕ → Link
 best_at best c = slice_index_or best c no_link
 
 -- the anchor of a place, with the place
-pub record IsSpotOf (anchors : List Anchor) (k : ℕ) (s : Spot) : Type 0 where
+pub record IsIndexedAnchorOf (anchors : List Anchor) (k : ℕ) (s : IndexedAnchor) : Type 0 where
   pub place : s.place ≡ k
   pub anchor : s.anchor ≡ anchor_at anchors k
 
 -- all anchors, in any order
-pub record AreSpots (anchors : List Anchor) (spots : List Spot) : Type 0 where
-  pub within : (k : ℕ) → k < length spots → (spot_at spots k).place < length anchors
-  pub anchor : (k : ℕ) → k < length spots → (spot_at spots k).anchor ≡ anchor_at anchors (spot_at spots k).place
-  pub whole : (j : ℕ) → j < length anchors → (k : ℕ) × (k < length spots) × ((spot_at spots k).place ≡ j)
+pub record AreIndexedAnchors (anchors : List Anchor) (indexed_anchors : List IndexedAnchor) : Type 0 where
+  pub within : (k : ℕ) → k < length indexed_anchors → (indexed_anchor_at indexed_anchors k).place < length anchors
+  pub anchor : (k : ℕ) → k < length indexed_anchors → (indexed_anchor_at indexed_anchors k).anchor ≡ anchor_at anchors (indexed_anchor_at indexed_anchors k).place
+  pub whole : (j : ℕ) → j < length anchors → (k : ℕ) × (k < length indexed_anchors) × ((indexed_anchor_at indexed_anchors k).place ≡ j)
 
 -- what is kept is the link that was kept, or that of the two, whichever is less
-pub record IsDrawn (s t : Spot) (old new : Link) : Type 0 where
+pub record IsDrawn (s t : IndexedAnchor) (old new : Link) : Type 0 where
   pub choice : (new ≡ old) ⊎ (new ≡ link_between s t)
   pub not_old : rank new ≤ rank old
   pub not_other : rank new ≤ rank (link_between s t)
@@ -51,15 +51,15 @@ pub record IsDrawn (s t : Spot) (old new : Link) : Type 0 where
 abbrev pub Covers : Span → ℤ → Type 0
 Covers s z = (s.low ≤ℤ z) × (z ≤ℤ s.high)
 
-abbrev pub IsInside : Area → Anchor → Type 0
-IsInside area a = Covers area.x a.x × Covers area.y a.y
+abbrev pub IsLinkInside : Area → Anchor → Type 0
+IsLinkInside area a = Covers area.x a.x × Covers area.y a.y
 
 -- the node's area has the anchors of its part
-pub record IsNode (spots : List Spot) (n : Node) : Type 0 where
-  pub inside : (i : ℕ) → n.low ≤ i → i < n.high → i < length spots → IsInside n.area (spot_at spots i).anchor
+pub record IsNode (indexed_anchors : List IndexedAnchor) (n : Node) : Type 0 where
+  pub inside : (i : ℕ) → n.low ≤ i → i < n.high → i < length indexed_anchors → IsLinkInside n.area (indexed_anchor_at indexed_anchors i).anchor
 
-abbrev pub AreNodes : List Spot → List Node → Type 0
-AreNodes spots nodes = (k : ℕ) (d : Node) → k < length nodes → IsNode spots (slice_index_or nodes k d)
+abbrev pub AreNodes : List IndexedAnchor → List Node → Type 0
+AreNodes indexed_anchors nodes = (k : ℕ) (d : Node) → k < length nodes → IsNode indexed_anchors (slice_index_or nodes k d)
 
 -- two parts hold what a part does, and are shorter
 pub record AreHalves (part a b : Part) : Type 0 where
@@ -73,39 +73,39 @@ pub record AreHalves (part a b : Part) : Type 0 where
 abbrev pub label_at : List ℕ → ℕ → ℕ
 label_at labels g = slice_index_or labels g 0
 
-abbrev pub label_of : List ℕ → Spot → ℕ
+abbrev pub label_of : List ℕ → IndexedAnchor → ℕ
 label_of labels s = label_at labels s.anchor.group
 
 -- all anchors of the part have the label
-pub record IsNamed (spots : List Spot) (labels : List ℕ) (low high c : ℕ) : Type 0 where
-  pub each : (i : ℕ) → low ≤ i → i < high → i < length spots → label_of labels (spot_at spots i) ≡ c
+pub record IsNamed (indexed_anchors : List IndexedAnchor) (labels : List ℕ) (low high c : ℕ) : Type 0 where
+  pub each : (i : ℕ) → low ≤ i → i < high → i < length indexed_anchors → label_of labels (indexed_anchor_at indexed_anchors i) ≡ c
 
 -- where a node has a name, all anchors of its part have that label
-abbrev pub AreNames : List Spot → List ℕ → List Node → List (Option ℕ) → Type 0
-AreNames spots labels nodes names = (k c : ℕ) (d : Node) → k < length nodes → slice_index_or names k None ≡ Some c →
-    IsNamed spots labels (slice_index_or nodes k d).low (slice_index_or nodes k d).high c
+abbrev pub AreNames : List IndexedAnchor → List ℕ → List Node → List (Option ℕ) → Type 0
+AreNames indexed_anchors labels nodes names = (k c : ℕ) (d : Node) → k < length nodes → slice_index_or names k None ≡ Some c →
+    IsNamed indexed_anchors labels (slice_index_or nodes k d).low (slice_index_or nodes k d).high c
 
 -- no link to an anchor of the part that has another label is less
-pub record IsPassed (spots : List Spot) (labels : List ℕ) (s : Spot) (own low high : ℕ) (best : Link) : Type 0 where
-  pub not_others : (i : ℕ) → low ≤ i → i < high → i < length spots → label_of labels (spot_at spots i) ≢ own → rank best ≤ rank (link_between s (spot_at spots i))
+pub record IsPassed (indexed_anchors : List IndexedAnchor) (labels : List ℕ) (s : IndexedAnchor) (own low high : ℕ) (best : Link) : Type 0 where
+  pub not_others : (i : ℕ) → low ≤ i → i < high → i < length indexed_anchors → label_of labels (indexed_anchor_at indexed_anchors i) ≢ own → rank best ≤ rank (link_between s (indexed_anchor_at indexed_anchors i))
 
 -- the least of the link that was kept and those to anchors of the part that have another label
-pub record IsLooked (spots : List Spot) (labels : List ℕ) (s : Spot) (own low high : ℕ) (old new : Link) : Type 0 where
-  pub choice : (new ≡ old) ⊎ ((i : ℕ) × (i < length spots) × (label_of labels (spot_at spots i) ≢ own) × (new ≡ link_between s (spot_at spots i)))
+pub record IsLooked (indexed_anchors : List IndexedAnchor) (labels : List ℕ) (s : IndexedAnchor) (own low high : ℕ) (old new : Link) : Type 0 where
+  pub choice : (new ≡ old) ⊎ ((i : ℕ) × (i < length indexed_anchors) × (label_of labels (indexed_anchor_at indexed_anchors i) ≢ own) × (new ≡ link_between s (indexed_anchor_at indexed_anchors i)))
   pub not_old : rank new ≤ rank old
-  pub passed : IsPassed spots labels s own low high new
+  pub passed : IsPassed indexed_anchors labels s own low high new
 
 -- a link from an anchor with the label to one with another
-abbrev pub IsLeaving : List Spot → List ℕ → ℕ → Link → Type 0
-IsLeaving spots labels c l = (i j : ℕ) × (i < length spots) × (j < length spots) × (label_of labels (spot_at spots i) ≡ c) × (label_of labels (spot_at spots j) ≢ c)
-    × (l ≡ link_between (spot_at spots i) (spot_at spots j))
+abbrev pub IsLeaving : List IndexedAnchor → List ℕ → ℕ → Link → Type 0
+IsLeaving indexed_anchors labels c l = (i j : ℕ) × (i < length indexed_anchors) × (j < length indexed_anchors) × (label_of labels (indexed_anchor_at indexed_anchors i) ≡ c) × (label_of labels (indexed_anchor_at indexed_anchors j) ≢ c)
+    × (l ≡ link_between (indexed_anchor_at indexed_anchors i) (indexed_anchor_at indexed_anchors j))
 
 -- for each label but one the least link that leaves it, as far as the first n anchors tell
-pub record AreBestTo (spots : List Spot) (labels : List ℕ) (skipped n : ℕ) (best : List Link) : Type 0 where
+pub record AreBestTo (indexed_anchors : List IndexedAnchor) (labels : List ℕ) (skipped n : ℕ) (best : List Link) : Type 0 where
   pub none : best_at best skipped ≡ no_link
-  pub choice : (c : ℕ) → c < length best → (best_at best c ≡ no_link) ⊎ IsLeaving spots labels c (best_at best c)
-  pub least : (i j : ℕ) → i < n → j < length spots → label_of labels (spot_at spots i) ≢ skipped → label_of labels (spot_at spots j) ≢ label_of labels (spot_at spots i) →
-      rank (best_at best (label_of labels (spot_at spots i))) ≤ rank (link_between (spot_at spots i) (spot_at spots j))
+  pub choice : (c : ℕ) → c < length best → (best_at best c ≡ no_link) ⊎ IsLeaving indexed_anchors labels c (best_at best c)
+  pub least : (i j : ℕ) → i < n → j < length indexed_anchors → label_of labels (indexed_anchor_at indexed_anchors i) ≢ skipped → label_of labels (indexed_anchor_at indexed_anchors j) ≢ label_of labels (indexed_anchor_at indexed_anchors i) →
+      rank (best_at best (label_of labels (indexed_anchor_at indexed_anchors i))) ≤ rank (link_between (indexed_anchor_at indexed_anchors i) (indexed_anchor_at indexed_anchors j))
 
 -- each group is listed among the members of its label, and there alone
 pub record AreKept (labels : List ℕ) (members : List Members) : Type 0 where

@@ -1,6 +1,6 @@
-pub mod Reach
+pub mod CoordinateRange
 pub mod Mem
-pub mod Chains
+pub mod LinkChains
 pub mod NestOf
 pub mod Grow
 pub mod Forest

@@ -1,10 +1,10 @@
 -- The nest of a list of anchors: the links of a least spanning tree of their groups. Lengths are nanometres.
 use Rattle.std.specs.Prelude.{◌≡◌, ◌≢◌, ℕ, suc, ◌+◌, ◌*◌, ◌<◌, max, ◌⊎◌, pos, ◌-ℤ◌, neg_ℤ, unsigned_abs, List, [], ◌∷◌, length, slice_index_or, sum_by, All, Contains, ◌≤◌, refl}
 use Rattle.int_algebra.proofs.Tested.{le_by_test}
-use Rattle.ratsnest.specs.Reach.{IsInReach}
+use Rattle.ratsnest.specs.CoordinateRange.{IsInReach}
 use Rattle.ratsnest.specs.declared.anchor.Anchor.{Anchor}
 use Rattle.ratsnest.specs.declared.link.Link.{Link}
-use Rattle.ratsnest.specs.Chains.{Chain}
+use Rattle.ratsnest.specs.LinkChains.{Chain}
 
 abbrev at_zero : IsInReach (pos 0)
 at_zero = record { from = le_by_test (neg_ℤ (pos 500000000)) (pos 0) refl; to = le_by_test (pos 0) (pos 500000000) refl }

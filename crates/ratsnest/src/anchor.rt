@@ -1,6 +1,6 @@
 //! Anchors.
 
-ghost use Rattle.ratsnest.specs.Reach.{IsInReach};
+ghost use Rattle.ratsnest.specs.CoordinateRange.{IsInReach};
 
 /// A place of an item at which links of its net may end. `id` is the item's and `number` counts its anchors from 0; `group` is
 /// the number of the item's group among those of the net. `x` and `y` are nanometres, at most 500,000,000 from 0.

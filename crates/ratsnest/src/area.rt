@@ -3,12 +3,12 @@
 ghost use Rattle.std.specs.Prelude.{◌≡◌, ◌<◌, ◌≤◌, ◌*◌, ◌≤ℤ◌, ℕ, ℤ, ◌-ℤ◌, unsigned_abs, length};
 ghost use Rattle.ratsnest.specs.declared.anchor.Anchor.{Anchor};
 ghost use Rattle.ratsnest.specs.NestOf.{square_of};
-ghost use Rattle.ratsnest.specs.Reach.{IsInReach};
-ghost use Rattle.ratsnest.specs.Forest.{Covers, IsInside, spot_at};
+ghost use Rattle.ratsnest.specs.CoordinateRange.{IsInReach};
+ghost use Rattle.ratsnest.specs.Forest.{Covers, IsLinkInside, indexed_anchor_at};
 
 use crate::anchor::Anchor;
+use crate::indexed_anchor::IndexedAnchor;
 use crate::span::Span;
-use crate::spot::Spot;
 
 /// The places whose coordinates are in both spans.
 #[derive(Clone, Copy, Drop)]
@@ -58,8 +58,8 @@ fn with(span: Span, z: i64) -> Span
 
 /// The area with this anchor.
 fn with_anchor(area: Area, anchor: Anchor) -> Area
-    ensures here { IsInside result anchor }
-    ensures rest { (a : Anchor) → IsInside area a → IsInside result a }
+    ensures here { IsLinkInside result anchor }
+    ensures rest { (a : Anchor) → IsLinkInside area a → IsLinkInside result a }
 {
     Area {
         x: with(area.x, anchor.x),
@@ -68,16 +68,16 @@ fn with_anchor(area: Area, anchor: Anchor) -> Area
 }
 
 /// The area of the anchors from one place to another.
-pub(crate) fn area_of(spots: &[Spot], low: usize, high: usize) -> Area
-    ensures { (i : ℕ) → low ≤ i → i < high → i < length spots.now
-        → IsInside result (spot_at spots.now i).anchor }
+pub(crate) fn area_of(indexed_anchors: &[IndexedAnchor], low: usize, high: usize) -> Area
+    ensures { (i : ℕ) → low ≤ i → i < high → i < length indexed_anchors.now
+        → IsLinkInside result (indexed_anchor_at indexed_anchors.now i).anchor }
 {
     let mut area = Area {
         x: empty(),
         y: empty(),
     };
-    for i in low..high.min(spots.len()) {
-        area = with_anchor(area, spots[i].anchor);
+    for i in low..high.min(indexed_anchors.len()) {
+        area = with_anchor(area, indexed_anchors[i].anchor);
     }
     area
 }
@@ -112,7 +112,7 @@ fn squared(n: u64) -> u64
 
 /// The square of the distance of an anchor from an area, at most: no anchor of the area is nearer.
 pub(crate) fn square_from(anchor: Anchor, area: Area) -> u64
-    ensures { (a : Anchor) → IsInside area a → result ≤ square_of anchor a }
+    ensures { (a : Anchor) → IsLinkInside area a → result ≤ square_of anchor a }
 {
     squared(gap(area.x, anchor.x)) + squared(gap(area.y, anchor.y))
 }

@@ -6,7 +6,7 @@ ghost use Rattle.ratsnest.specs.declared.link.Link.{Link};
 ghost use Rattle.ratsnest.specs.NestOf.{AnchorsRise, IsNest, IsLink, group_at, group_count, square_between};
 ghost use Rattle.ratsnest.specs.Grow.{rank, link_at, AreAllLinks, AreOwnLabels};
 ghost use Rattle.ratsnest.specs.Mem.{Mem, Climbs};
-ghost use Rattle.ratsnest.specs.Reach.{IsInReach};
+ghost use Rattle.ratsnest.specs.CoordinateRange.{IsInReach};
 
 use crate::anchor::Anchor;
 use crate::link::Link;
@@ -161,7 +161,7 @@ fn by_chains(alloc: Global, anchors: &[Anchor]) -> Result<Vec<Link>, AllocError>
 }
 
 /// Whether these are the links of the nest of the anchors, whoever made them: false exactly where they are not. Anchors rise by
-/// id and number; nothing is asked of the nest. Only want of memory refuses it.
+/// id and number; nothing is asked of the nest. Only running out of memory refuses it.
 ///
 /// It makes all links of the anchors, so it takes the square of their number in memory.
 pub fn check_nest(alloc: Global, anchors: &[Anchor], nest: &Nest) -> Result<bool, AllocError>

@@ -159,7 +159,7 @@ fn choose(alloc: Global, anchors: &[Anchor]) -> Result<Vec<Link>, AllocError>
 /// the square of their distance, then by id and number of the first anchor, then of the second.
 ///
 /// The nest joins all groups, by one link less than there are groups, at the least sum of squares that does so. Anchors rise by
-/// id and number, and each group from 0 to the greatest occurs. Only want of memory refuses it.
+/// id and number, and each group from 0 to the greatest occurs. Only running out of memory refuses it.
 /// Few anchors are each measured against all of other groups. Of more, each is asked in a few rounds for its least link in a tree
 /// of areas: where they lie apart, that takes about as long as a few sorts.
 pub fn nest(alloc: Global, anchors: &[Anchor]) -> Result<Nest, AllocError>

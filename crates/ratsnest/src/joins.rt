@@ -100,7 +100,8 @@ fn join(
     requires usable { IsUsable anchors.now link }
     ensures kept { OnOk result (AreKept labels.new members.new) }
     ensures forest { OnOk result (IsForest anchors.now labels.new links.new.items) }
-    ensures grown { OnOk result (HasGrown anchors.now link labels.old links.old.items labels.new links.new.items) }
+    ensures grown { OnOk result (HasGrown anchors.now link labels.old links.old.items labels.new
+        links.new.items) }
 {
     if link.square == u64::MAX {
         return Ok(());

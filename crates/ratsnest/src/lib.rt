@@ -7,6 +7,7 @@ mod anchor;
 mod area;
 mod checking;
 mod growing;
+mod indexed_anchor;
 mod joins;
 mod labels;
 mod laws;
@@ -17,7 +18,6 @@ mod nearest;
 mod places;
 mod rounds;
 mod span;
-mod spot;
 mod tree;
 mod waiting;
 

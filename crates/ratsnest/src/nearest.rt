@@ -5,9 +5,9 @@ ghost use Rattle.ratsnest.specs.declared.tree.Node.{Node};
 ghost use Rattle.ratsnest.specs.Forest.{AreNodes, AreNames, AreHalves, IsNamed, IsPassed, IsLooked, AreBestTo, label_at, label_of, no_link};
 
 use crate::area::square_from;
+use crate::indexed_anchor::{IndexedAnchor, draw};
 use crate::link::Link;
 use crate::places::is_below;
-use crate::spot::{Spot, draw};
 use crate::tree::{Halves, Node, Part, Tree, halves_of, is_small};
 use std::alloc::{AllocError, Global};
 
@@ -32,10 +32,10 @@ pub(crate) fn label_at(labels: &[usize], group: usize) -> usize
     }
 }
 
-fn label_of(labels: &[usize], spot: &Spot) -> usize
-    ensures { result ≡ label_of labels.now spot.now }
+fn label_of(labels: &[usize], indexed_anchor: &IndexedAnchor) -> usize
+    ensures { result ≡ label_of labels.now indexed_anchor.now }
 {
-    label_at(labels, spot.anchor.group as usize)
+    label_at(labels, indexed_anchor.anchor.group as usize)
 }
 
 /// The label that all of a part have, unless it is the one that is passed over: none asks for that.
@@ -46,14 +46,14 @@ fn name_of_all(
     low: usize,
     high: usize,
 ) -> Option<usize>
-    ensures { IfSome result (IsNamed tree.now.spots.items labels.now low high) }
+    ensures { IfSome result (IsNamed tree.now.indexed_anchors.items labels.now low high) }
 {
-    let first = label_of(labels, tree.spots.get(low)?);
+    let first = label_of(labels, tree.indexed_anchors.get(low)?);
     if first == skipped {
         return None;
     }
-    for i in low..high.min(tree.spots.len()) {
-        if label_of(labels, &tree.spots[i]) != first {
+    for i in low..high.min(tree.indexed_anchors.len()) {
+        if label_of(labels, &tree.indexed_anchors[i]) != first {
             return None;
         }
     }
@@ -92,8 +92,8 @@ fn name_of_both(
     left: usize,
     right: usize,
 ) -> Option<usize>
-    requires { AreNames tree.now.spots.items labels.now tree.now.nodes.items names.now }
-    ensures { IfSome result (λ c. (d : Node) → IsNamed tree.now.spots.items labels.now
+    requires { AreNames tree.now.indexed_anchors.items labels.now tree.now.nodes.items names.now }
+    ensures { IfSome result (λ c. (d : Node) → IsNamed tree.now.indexed_anchors.items labels.now
         (slice_index_or tree.now.nodes.items node d).low
         (slice_index_or tree.now.nodes.items node d).high c) }
 {
@@ -117,8 +117,8 @@ fn name_of(
     names: &[Option<usize>],
     node: usize,
 ) -> Option<usize>
-    requires { AreNames tree.now.spots.items labels.now tree.now.nodes.items names.now }
-    ensures { IfSome result (λ c. (d : Node) → IsNamed tree.now.spots.items labels.now
+    requires { AreNames tree.now.indexed_anchors.items labels.now tree.now.nodes.items names.now }
+    ensures { IfSome result (λ c. (d : Node) → IsNamed tree.now.indexed_anchors.items labels.now
         (slice_index_or tree.now.nodes.items node d).low
         (slice_index_or tree.now.nodes.items node d).high c) }
 {
@@ -146,7 +146,7 @@ pub(crate) fn all_names(
     skipped: usize,
 ) -> Result<Vec<Option<usize>>, AllocError>
     ensures { IfOk result (λ v.
-        AreNames tree.now.spots.items labels.now tree.now.nodes.items v.items) }
+        AreNames tree.now.indexed_anchors.items labels.now tree.now.nodes.items v.items) }
 {
     let mut names = vec![in alloc; None; tree.nodes.len()]?;
     for node in (0..tree.nodes.len()).rev() {
@@ -171,15 +171,16 @@ fn is_passed(
     tree: &Tree,
     labels: &[usize],
     names: &[Option<usize>],
-    from: &Spot,
+    from: &IndexedAnchor,
     own: usize,
     part: Part,
     best: Link,
 ) -> bool
-    requires nodes { AreNodes tree.now.spots.items tree.now.nodes.items }
-    requires names { AreNames tree.now.spots.items labels.now tree.now.nodes.items names.now }
+    requires nodes { AreNodes tree.now.indexed_anchors.items tree.now.nodes.items }
+    requires names { AreNames tree.now.indexed_anchors.items labels.now tree.now.nodes.items
+        names.now }
     ensures { IsTrue result
-        → IsPassed tree.now.spots.items labels.now from.now own part.low part.high best }
+        → IsPassed tree.now.indexed_anchors.items labels.now from.now own part.low part.high best }
 {
     match node_at(tree, part.node) {
         Some(node) => {
@@ -195,24 +196,25 @@ fn is_passed(
 fn look_at_each(
     tree: &Tree,
     labels: &[usize],
-    from: &Spot,
+    from: &IndexedAnchor,
     own: usize,
     low: usize,
     high: usize,
     best: &mut Link,
 )
-    requires { high ≤ length tree.now.spots.items }
-    ensures { IsLooked tree.now.spots.items labels.now from.now own low high best.old best.new }
+    requires { high ≤ length tree.now.indexed_anchors.items }
+    ensures { IsLooked tree.now.indexed_anchors.items labels.now from.now own low high best.old
+        best.new }
 {
     for i in low..high {
-        let to = tree.spots[i];
+        let to = tree.indexed_anchors[i];
         if label_of(labels, &to) != own {
             draw(best, from, &to);
         }
     }
 }
 
-fn square_of_part(tree: &Tree, from: &Spot, part: Part) -> u64 {
+fn square_of_part(tree: &Tree, from: &IndexedAnchor, part: Part) -> u64 {
     match node_at(tree, part.node) {
         Some(node) => square_from(from.anchor, node.area),
         None => 0,
@@ -220,7 +222,7 @@ fn square_of_part(tree: &Tree, from: &Spot, part: Part) -> u64 {
 }
 
 /// The halves of a part, the nearer one first.
-fn nearer_first(tree: &Tree, from: &Spot, part: Part) -> Halves
+fn nearer_first(tree: &Tree, from: &IndexedAnchor, part: Part) -> Halves
     requires { part.low + 1 < part.high }
     ensures { AreHalves part result.left result.right }
 {
@@ -240,15 +242,17 @@ fn look(
     tree: &Tree,
     labels: &[usize],
     names: &[Option<usize>],
-    from: &Spot,
+    from: &IndexedAnchor,
     own: usize,
     part: Part,
     best: &mut Link,
 )
-    requires nodes { AreNodes tree.now.spots.items tree.now.nodes.items }
-    requires names { AreNames tree.now.spots.items labels.now tree.now.nodes.items names.now }
-    requires fits { part.high ≤ length tree.now.spots.items }
-    ensures { IsLooked tree.now.spots.items labels.now from.now own part.low part.high best.old best.new }
+    requires nodes { AreNodes tree.now.indexed_anchors.items tree.now.nodes.items }
+    requires names { AreNames tree.now.indexed_anchors.items labels.now tree.now.nodes.items
+        names.now }
+    requires fits { part.high ≤ length tree.now.indexed_anchors.items }
+    ensures { IsLooked tree.now.indexed_anchors.items labels.now from.now own part.low part.high
+        best.old best.new }
 {
     if is_passed(tree, labels, names, from, own, part, *best) {
         return;
@@ -266,8 +270,8 @@ fn look(
 fn count_each(tree: &Tree, labels: &[usize], counts: &mut [usize])
     requires labels { (g : ℕ) → label_at labels.now g < length counts.old }
 {
-    for i in 0..tree.spots.len() {
-        let label = label_of(labels, &tree.spots[i]);
+    for i in 0..tree.indexed_anchors.len() {
+        let label = label_of(labels, &tree.indexed_anchors[i]);
         counts[label] = counts[label].saturating_add(1);
     }
 }
@@ -296,20 +300,21 @@ pub(crate) fn largest(alloc: Global, tree: &Tree, labels: &[usize]) -> Result<us
 
 /// For each label but one the least link that leaves it.
 fn seek(tree: &Tree, labels: &[usize], names: &[Option<usize>], skipped: usize, best: &mut [Link])
-    requires nodes { AreNodes tree.now.spots.items tree.now.nodes.items }
-    requires names { AreNames tree.now.spots.items labels.now tree.now.nodes.items names.now }
+    requires nodes { AreNodes tree.now.indexed_anchors.items tree.now.nodes.items }
+    requires names { AreNames tree.now.indexed_anchors.items labels.now tree.now.nodes.items
+        names.now }
     requires labels { (g : ℕ) → label_at labels.now g < length best.old }
     requires none { best.old ≡ replicate (length best.old) no_link }
-    ensures { AreBestTo tree.now.spots.items labels.now skipped
-        (length tree.now.spots.items) best.new }
+    ensures { AreBestTo tree.now.indexed_anchors.items labels.now skipped
+        (length tree.now.indexed_anchors.items) best.new }
 {
     let whole = Part {
         low: 0,
-        high: tree.spots.len(),
+        high: tree.indexed_anchors.len(),
         node: 0,
     };
-    for i in 0..tree.spots.len() {
-        let from = tree.spots[i];
+    for i in 0..tree.indexed_anchors.len() {
+        let from = tree.indexed_anchors[i];
         let own = label_of(labels, &from);
         if own != skipped {
             look(tree, labels, names, &from, own, whole, &mut best[own]);
@@ -324,11 +329,11 @@ pub(crate) fn all_best(
     labels: &[usize],
     skipped: usize,
 ) -> Result<Vec<Link>, AllocError>
-    requires nodes { AreNodes tree.now.spots.items tree.now.nodes.items }
+    requires nodes { AreNodes tree.now.indexed_anchors.items tree.now.nodes.items }
     requires labels { (g : ℕ) → label_at labels.now g < length labels.now }
     ensures len { IfOk result (λ v. length v.items ≡ length labels.now) }
-    ensures best { IfOk result (λ v. AreBestTo tree.now.spots.items labels.now skipped
-        (length tree.now.spots.items) v.items) }
+    ensures best { IfOk result (λ v. AreBestTo tree.now.indexed_anchors.items labels.now skipped
+        (length tree.now.indexed_anchors.items) v.items) }
 {
     let names = all_names(alloc, tree, labels, skipped)?;
     let mut best = vec![in alloc; no_link(); labels.len()]?;

@@ -1,7 +1,7 @@
 //! Anchors and links by their places in a list of anchors. None of these calls takes memory.
 
 ghost use Rattle.std.specs.Prelude.{◌≡◌, ◌<◌, ◌^◌, ◌↔◌, IsTrue, length, ◌≤◌, unsigned_abs, ◌-ℤ◌, ◌*◌};
-ghost use Rattle.ratsnest.specs.Reach.{IsInReach};
+ghost use Rattle.ratsnest.specs.CoordinateRange.{IsInReach};
 ghost use Rattle.ratsnest.specs.NestOf.{group_at, group_count, square_of, square_between};
 ghost use Rattle.ratsnest.specs.Grow.{rank, link_at, link_with_places};
 

@@ -6,7 +6,7 @@ ghost use Rattle.std.specs.Prelude.{◌≡◌, ◌<◌, ◌≤◌, ◌^◌, ◌+
 ghost use Rattle.ratsnest.specs.declared.link.Link.{Link};
 ghost use Rattle.ratsnest.specs.NestOf.{group_count, AnchorsRise, GroupsOccur};
 ghost use Rattle.ratsnest.specs.Grow.{rank, AreChosen};
-ghost use Rattle.ratsnest.specs.Forest.{AreSpots, AreNodes, AreKept, IsForest, AreOne};
+ghost use Rattle.ratsnest.specs.Forest.{AreIndexedAnchors, AreNodes, AreKept, IsForest, AreOne};
 ghost use Rattle.ratsnest.specs.Mem.{Mem, Climbs};
 
 use crate::anchor::Anchor;
@@ -38,8 +38,8 @@ fn take_round(
     requires rise { AnchorsRise anchors.now }
     requires occur { GroupsOccur anchors.now }
     requires few { length anchors.now < 2 ^ 32 }
-    requires spots { AreSpots anchors.now tree.now.spots.items }
-    requires nodes { AreNodes tree.now.spots.items tree.now.nodes.items }
+    requires indexed_anchors { AreIndexedAnchors anchors.now tree.now.indexed_anchors.items }
+    requires nodes { AreNodes tree.now.indexed_anchors.items tree.now.nodes.items }
     requires some { 0 < length labels.old }
     requires kept { AreKept labels.old members.old }
     requires forest { IsForest anchors.now labels.old links.old.items }
@@ -68,8 +68,8 @@ fn take_rounds(
     requires rise { AnchorsRise anchors.now }
     requires occur { GroupsOccur anchors.now }
     requires few { length anchors.now < 2 ^ 32 }
-    requires spots { AreSpots anchors.now tree.now.spots.items }
-    requires nodes { AreNodes tree.now.spots.items tree.now.nodes.items }
+    requires indexed_anchors { AreIndexedAnchors anchors.now tree.now.indexed_anchors.items }
+    requires nodes { AreNodes tree.now.indexed_anchors.items tree.now.nodes.items }
     requires some { 0 < length labels.old }
     requires kept { AreKept labels.old members.old }
     requires forest { IsForest anchors.now labels.old links.old.items }

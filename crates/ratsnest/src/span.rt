@@ -1,6 +1,6 @@
 //! Spans.
 
-ghost use Rattle.ratsnest.specs.Reach.{IsInReach};
+ghost use Rattle.ratsnest.specs.CoordinateRange.{IsInReach};
 
 /// The coordinates from `low` to `high`, in nanometres: none if `high` is below `low`.
 #[derive(Clone, Copy, Drop)]

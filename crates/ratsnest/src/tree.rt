@@ -2,11 +2,11 @@
 
 ghost use Rattle.std.specs.Prelude.{◌≡◌, ◌<◌, ◌≤◌, ◌+◌, ◌^◌, false, length, IfOk};
 ghost use Rattle.std.specs.List.Sorted.{IsPermutation};
-ghost use Rattle.ratsnest.specs.Forest.{IsNode, AreNodes, AreHalves, AreSpots};
+ghost use Rattle.ratsnest.specs.Forest.{IsNode, AreNodes, AreHalves, AreIndexedAnchors};
 
 use crate::anchor::Anchor;
 use crate::area::{Area, area_of, width};
-use crate::spot::{Spot, all_spots};
+use crate::indexed_anchor::{IndexedAnchor, all_indexed_anchors};
 use std::alloc::{AllocError, Global};
 
 /// Parts of at most so many anchors have no halves.
@@ -31,7 +31,7 @@ pub(crate) struct Node {
 /// Anchors, near ones together, with the areas of their parts.
 #[derive(Drop)]
 pub(crate) struct Tree {
-    pub(crate) spots: Vec<Spot>,
+    pub(crate) indexed_anchors: Vec<IndexedAnchor>,
     pub(crate) nodes: Vec<Node>,
 }
 
@@ -80,38 +80,38 @@ pub(crate) fn halves_of(part: Part) -> Halves
 }
 
 /// Puts the anchors in the order of one coordinate: that in which they lie farther apart.
-fn sort_part(spots: &mut [Spot])
-    ensures { IsPermutation spots.old spots.new }
+fn sort_part(indexed_anchors: &mut [IndexedAnchor])
+    ensures { IsPermutation indexed_anchors.old indexed_anchors.new }
 {
-    let area = area_of(spots, 0, spots.len());
+    let area = area_of(indexed_anchors, 0, indexed_anchors.len());
     if width(area.x) > width(area.y) {
-        spots.sort_unstable_by_key(|spot| spot.anchor.x);
+        indexed_anchors.sort_unstable_by_key(|indexed_anchor| indexed_anchor.anchor.x);
     } else {
-        spots.sort_unstable_by_key(|spot| spot.anchor.y);
+        indexed_anchors.sort_unstable_by_key(|indexed_anchor| indexed_anchor.anchor.y);
     }
 }
 
 /// Puts near ones together.
-fn put_together(spots: &mut [Spot], low: usize, high: usize)
-    requires { high ≤ length spots.old }
-    ensures { IsPermutation spots.old spots.new }
+fn put_together(indexed_anchors: &mut [IndexedAnchor], low: usize, high: usize)
+    requires { high ≤ length indexed_anchors.old }
+    ensures { IsPermutation indexed_anchors.old indexed_anchors.new }
 {
     if is_small(low, high) {
         return;
     }
-    sort_part(&mut spots[low..high]);
+    sort_part(&mut indexed_anchors[low..high]);
     let mid = middle(low, high);
-    put_together(spots, low, mid);
-    put_together(spots, mid, high);
+    put_together(indexed_anchors, low, mid);
+    put_together(indexed_anchors, mid, high);
 }
 
-fn node_of(spots: &[Spot], low: usize, high: usize) -> Node
-    ensures { IsNode spots.now result }
+fn node_of(indexed_anchors: &[IndexedAnchor], low: usize, high: usize) -> Node
+    ensures { IsNode indexed_anchors.now result }
 {
     Node {
         low,
         high,
-        area: area_of(spots, low, high),
+        area: area_of(indexed_anchors, low, high),
     }
 }
 
@@ -134,12 +134,12 @@ fn part_at(nodes: &[Node], node: usize) -> Option<Part> {
 }
 
 /// The node of a place. Where it has no part it is empty.
-fn next_node(spots: &[Spot], nodes: &[Node], node: usize) -> Node
-    ensures { IsNode spots.now result }
+fn next_node(indexed_anchors: &[IndexedAnchor], nodes: &[Node], node: usize) -> Node
+    ensures { IsNode indexed_anchors.now result }
 {
     match part_at(nodes, node) {
-        Some(part) => node_of(spots, part.low, part.high),
-        None => node_of(spots, 0, 0),
+        Some(part) => node_of(indexed_anchors, part.low, part.high),
+        None => node_of(indexed_anchors, 0, 0),
     }
 }
 
@@ -154,13 +154,13 @@ fn count_nodes(len: usize) -> usize {
     count
 }
 
-fn all_nodes(alloc: Global, spots: &[Spot]) -> Result<Vec<Node>, AllocError>
-    ensures { IfOk result (λ v. AreNodes spots.now v.items) }
+fn all_nodes(alloc: Global, indexed_anchors: &[IndexedAnchor]) -> Result<Vec<Node>, AllocError>
+    ensures { IfOk result (λ v. AreNodes indexed_anchors.now v.items) }
 {
     let mut nodes = Vec::new(alloc);
-    nodes.push(node_of(spots, 0, spots.len()))?;
-    for node in 1..count_nodes(spots.len()) {
-        let next = next_node(spots, &nodes, node);
+    nodes.push(node_of(indexed_anchors, 0, indexed_anchors.len()))?;
+    for node in 1..count_nodes(indexed_anchors.len()) {
+        let next = next_node(indexed_anchors, &nodes, node);
         nodes.push(next)?;
     }
     Ok(nodes)
@@ -169,12 +169,16 @@ fn all_nodes(alloc: Global, spots: &[Spot]) -> Result<Vec<Node>, AllocError>
 /// The tree of the anchors.
 pub(crate) fn tree_of(alloc: Global, anchors: &[Anchor]) -> Result<Tree, AllocError>
     requires few { length anchors.now < 2 ^ 32 }
-    ensures spots { IfOk result (λ tree. AreSpots anchors.now tree.spots.items) }
-    ensures nodes { IfOk result (λ tree. AreNodes tree.spots.items tree.nodes.items) }
+    ensures indexed_anchors { IfOk result (λ tree.
+        AreIndexedAnchors anchors.now tree.indexed_anchors.items) }
+    ensures nodes { IfOk result (λ tree. AreNodes tree.indexed_anchors.items tree.nodes.items) }
 {
-    let mut spots = all_spots(alloc, anchors)?;
-    let len = spots.len();
-    put_together(&mut spots, 0, len);
-    let nodes = all_nodes(alloc, &spots)?;
-    Ok(Tree { spots, nodes })
+    let mut indexed_anchors = all_indexed_anchors(alloc, anchors)?;
+    let len = indexed_anchors.len();
+    put_together(&mut indexed_anchors, 0, len);
+    let nodes = all_nodes(alloc, &indexed_anchors)?;
+    Ok(Tree {
+        indexed_anchors,
+        nodes,
+    })
 }

@@ -7,20 +7,20 @@ use Rattle.sexpr_read.specs.Tree.{Forest, list, Tree, leaf, branch}
 use Rattle.board_items.specs.declared.item.Item.{Item}
 use Rattle.board_items.specs.Boards.{PlainBoard}
 use Rattle.roundtrip_text.specs.Pieces.{SameTrees}
-use Rattle.roundtrip_text.specs.Anew.{insides}
-use Rattle.roundtrip_lists.specs.Alike.{Shift, Alike}
+use Rattle.roundtrip_text.specs.RewrittenText.{insides}
+use Rattle.roundtrip_lists.specs.Translated.{Shift, Translated}
 use Rattle.roundtrip_lists.specs.Carried.{shift_of, of_unit}
-use Rattle.roundtrip_lists.proofs.Moving.{alike_same, alike_itself}
+use Rattle.roundtrip_lists.proofs.Moving.{translated_same, translated_itself}
 use Rattle.pcb_read.specs.declared.sorts.Sort.{Sort}
 use Rattle.pcb_read.specs.Sorts.{sort_of}
-use Rattle.pcb_read.specs.ItemsOf.{SaysItems, has_room}
+use Rattle.pcb_read.specs.ItemsOf.{SaysItems, has_capacity}
 use Rattle.pcb_read.specs.ItemText.{SaysBy, SaysList}
 use Rattle.pcb_read.specs.BoardOf.{Reading, with_items, SaysPartBy, SaysPart, SaysParts}
-use Rattle.roundtrip_boards.specs.Roots.{SameGround, with_units, total}
-use Rattle.roundtrip_boards.specs.Written.{Draft, Added, is_gone, shift_of_unit, moved_if, inside_of, span_of, added_trees}
+use Rattle.roundtrip_boards.specs.Roots.{SameLayersAndNets, with_units, total}
+use Rattle.roundtrip_boards.specs.WrittenBoard.{Draft, Added, is_gone, shift_of_unit, moved_if, inside_of, span_of, added_trees}
 use Rattle.roundtrip_boards.specs.Ledger.{Entry, AreNow, AreKept, SameReads}
 use Rattle.roundtrip_boards.specs.AddedReads.{AddedRead, ends, nothing, unit}
-use Rattle.roundtrip_boards.proofs.Roots.{IsFresh, fresh_by, room_there, count_with, same_with}
+use Rattle.roundtrip_boards.proofs.Roots.{IsFresh, fresh_by, capacity_there, count_with, same_with}
 use Rattle.roundtrip_boards.proofs.Following.{HaveInsides, items_now}
 
 -- what was read stays
@@ -33,11 +33,11 @@ same_reads g (unit tree e was more) (f ∷ fs) h =
     unit tree f (record { board = was.board; same = was.same; says = subst (λ (l : List Item). SaysList was.board was.board.next_unit tree (Ok l)) (sym h.0) was.says }) (same_reads g more fs h.1)
 
 module _ (Carries : Sort → Tree → Tree → List Item → List Item → Type 0)
-    (carried : (sort : Sort) (board other : PlainBoard) (unit : ℕ) (t u : Tree) (items now : List Item) → SameGround board other → SaysItems board unit t sort (Ok items) → Carries sort t u items now
-    → has_room other other.next_unit now ≡ true → SaysItems other other.next_unit u sort (Ok (of_unit other.next_unit now)))
+    (carried : (sort : Sort) (board other : PlainBoard) (unit : ℕ) (t u : Tree) (items now : List Item) → SameLayersAndNets board other → SaysItems board unit t sort (Ok items) → Carries sort t u items now
+    → has_capacity other other.next_unit now ≡ true → SaysItems other other.next_unit u sort (Ok (of_unit other.next_unit now)))
     (carries : (sort : Sort) (s r : Span) (i j : Forest) (o : Option Shift) (e : Entry) → sort_of (branch s i) ≡ Some sort → SameTrees (moved_if o i) j → AreNow (shift_of o) e
     → Carries sort (branch s i) (branch r j) e.read (items_now e))
-    (without : (sort : Sort) (s r : Span) (i j : Forest) → sort_of (branch s i) ≡ Some sort → Alike None i j → Carries sort (branch s i) (branch r j) [] [])
+    (without : (sort : Sort) (s r : Span) (i j : Forest) → sort_of (branch s i) ≡ Some sort → Translated None i j → Carries sort (branch s i) (branch r j) [] [])
     (same_sort : (s r : Span) (i j : Forest) (o : Option Shift) → SameTrees (moved_if o i) j → sort_of (branch r j) ≡ sort_of (branch s i))
     (no_leaf : (s : Span) (q : Bool) (c : List ℕ) → sort_of (leaf s q c) ≡ None)
     (draft : Draft) (ground : PlainBoard) where
@@ -49,21 +49,21 @@ module _ (Carries : Sort → Tree → Tree → List Item → List Item → Type 
       by_sort None e h = absurd cc
       by_sort (Some sort) e h = (sort, e, h)
 
-  over : {a b c : PlainBoard} → SameGround a b → SameGround a c → SameGround b c
+  over : {a b c : PlainBoard} → SameLayersAndNets a b → SameLayersAndNets a c → SameLayersAndNets b c
   over h k = record { copper = k.copper ∙ sym h.copper; nets = k.nets ∙ sym h.nets }
 
-  join : {a b c : PlainBoard} → SameGround a b → SameGround b c → SameGround a c
+  join : {a b c : PlainBoard} → SameLayersAndNets a b → SameLayersAndNets b c → SameLayersAndNets a c
   join h k = record { copper = k.copper ∙ h.copper; nets = k.nets ∙ h.nets }
 
   pub record AddsTo (b : Reading) (us : List Tree) (units : List (List Item)) : Type 0 where
     pub last : Reading
     pub says : SaysParts b us (Ok last)
-    pub same : SameGround ground last.board
+    pub same : SameLayersAndNets ground last.board
     pub layered : last.layered ≡ b.layered
     pub items : last.board.items ≡ (with_units b.board units).items
 
   -- one list more, which gives these items
-  one_more : (b : Reading) (r : Span) (j : Forest) (us : List Tree) (sort : Sort) (now : List Item) (units : List (List Item)) → SameGround ground b.board → sort_of (branch r j) ≡ Some sort
+  one_more : (b : Reading) (r : Span) (j : Forest) (us : List Tree) (sort : Sort) (now : List Item) (units : List (List Item)) → SameLayersAndNets ground b.board → sort_of (branch r j) ≡ Some sort
       → SaysItems b.board b.board.next_unit (branch r j) sort (Ok (of_unit b.board.next_unit now))
       → AddsTo (record b { board = with_items b.board (of_unit b.board.next_unit now) }) us units → AddsTo b (branch r j ∷ us) (now ∷ units)
   one_more b r j us sort now units same is says rest =
@@ -79,7 +79,7 @@ module _ (Carries : Sort → Tree → Tree → List Item → List Item → Type 
   one_inside i is (branch r j ∷ us) h = (r, j, us, refl, h.0, h.1)
 
   abbrev pub Adds : ℕ → List Added → List Entry → Type 0
-  Adds k lists es = (b : Reading) (us : List Tree) → SameGround ground b.board → IsFresh b.board → length b.board.items + total (map items_now es) ≤ 200000 → AreKept draft k es
+  Adds k lists es = (b : Reading) (us : List Tree) → SameLayersAndNets ground b.board → IsFresh b.board → length b.board.items + total (map items_now es) ≤ 200000 → AreKept draft k es
       → HaveInsides (insides (added_trees draft lists)) us → (units : List (List Item)) × AddsTo b us units × ((c : PlainBoard) → with_units c units ≡ with_units c (map items_now es))
 
   fresh_more : (b : Reading) (now : List Item) → IsFresh b.board → IsFresh (with_items b.board (of_unit b.board.next_unit now))
@@ -112,20 +112,20 @@ module _ (Carries : Sort → Tree → Tree → List Item → List Item → Type 
           → (units : List (List Item)) × AddsTo b us units × ((c : PlainBoard) → with_units c units ≡ with_units c (map items_now es))
       by_tree (leaf s q c) sort is says o k = absurd (let e : None ≡ Some sort = sym (no_leaf s q c) ∙ is in cc)
       by_tree (branch s i) sort is says o k =
-          let found = carried sort was.board b.board was.board.next_unit (branch s i) (branch o.0 o.1) [] [] (over was.same same) says (without sort s o.0 i o.1 is (alike_same None i i o.1 (alike_itself i) o.4)) refl in
+          let found = carried sort was.board b.board was.board.next_unit (branch s i) (branch o.0 o.1) [] [] (over was.same same) says (without sort s o.0 i o.1 is (translated_same None i i o.1 (translated_itself i) o.4)) refl in
           ([] ∷ k.0, subst (λ (l : List Tree). AddsTo b l ([] ∷ k.0)) (sym o.3) (one_more b o.0 o.1 o.2 sort [] k.0 same (same_sort s o.0 i o.1 None o.4 ∙ is) found k.1), k.2)
   adds (unit {k = n} {more = more} {es = es} tree e was rest) b us same fresh few kept inside = by_gone (is_gone draft n) refl kept.0.items inside (λ b us. adds rest b us)
     where
       there : (tree : Tree) → SaysList was.board was.board.next_unit tree (Ok e.read) → AreNow (shift_of (shift_of_unit draft n)) e → HaveInsides (moved_if (shift_of_unit draft n) (inside_of tree) ∷ insides (added_trees draft more)) us
-          → ((b : Reading) (us : List Tree) → SameGround ground b.board → IsFresh b.board → length b.board.items + total (map items_now es) ≤ 200000 → AreKept draft (suc n) es → HaveInsides (insides (added_trees draft more)) us
+          → ((b : Reading) (us : List Tree) → SameLayersAndNets ground b.board → IsFresh b.board → length b.board.items + total (map items_now es) ≤ 200000 → AreKept draft (suc n) es → HaveInsides (insides (added_trees draft more)) us
           → (units : List (List Item)) × AddsTo b us units × ((c : PlainBoard) → with_units c units ≡ with_units c (map items_now es))) → Given b us e es
       there (leaf s q c) said now inside later = absurd (let t = sort_there was.board was.board.next_unit (leaf s q c) e.read said in let x : None ≡ Some t.0 = sym (no_leaf s q c) ∙ t.1 in cc)
       there (branch s i) said now inside later =
           let t = sort_there was.board was.board.next_unit (branch s i) e.read said in
           let o = one_inside (moved_if (shift_of_unit draft n) i) (insides (added_trees draft more)) us inside in
           let items : List Item = items_now e in
-          let room : has_room b.board b.board.next_unit items ≡ true = room_there b.board items fresh (omega (arith, few)) in
-          let found = carried t.0 was.board b.board was.board.next_unit (branch s i) (branch o.0 o.1) e.read items (over was.same same) t.2 (carries t.0 s o.0 i o.1 (shift_of_unit draft n) e t.1 o.4 now) room in
+          let capacity : has_capacity b.board b.board.next_unit items ≡ true = capacity_there b.board items fresh (omega (arith, few)) in
+          let found = carried t.0 was.board b.board was.board.next_unit (branch s i) (branch o.0 o.1) e.read items (over was.same same) t.2 (carries t.0 s o.0 i o.1 (shift_of_unit draft n) e t.1 o.4 now) capacity in
           let board : PlainBoard = with_items b.board (of_unit b.board.next_unit items) in
           let k = later (record b { board = board }) o.2 (join same (same_with b.board (of_unit b.board.next_unit items))) (fresh_more b items fresh) (count_more b items (total (map items_now es)) few) kept.1 o.5 in (
             items ∷ k.0,
@@ -135,7 +135,7 @@ module _ (Carries : Sort → Tree → Tree → List Item → List Item → Type 
 
       by_gone : (g : Bool) → is_gone draft n ≡ g → MatchBool g (e.now ≡ []) (AreNow (shift_of (shift_of_unit draft n)) e)
           → HaveInsides (insides (cond g (added_trees draft more) (list (span_of tree) (moved_if (shift_of_unit draft n) (inside_of tree)) (added_trees draft more)))) us
-          → ((b : Reading) (us : List Tree) → SameGround ground b.board → IsFresh b.board → length b.board.items + total (map items_now es) ≤ 200000 → AreKept draft (suc n) es → HaveInsides (insides (added_trees draft more)) us
+          → ((b : Reading) (us : List Tree) → SameLayersAndNets ground b.board → IsFresh b.board → length b.board.items + total (map items_now es) ≤ 200000 → AreKept draft (suc n) es → HaveInsides (insides (added_trees draft more)) us
           → (units : List (List Item)) × AddsTo b us units × ((c : PlainBoard) → with_units c units ≡ with_units c (map items_now es))) → Given b us e es
       by_gone true g empty inside later =
           let none_now : items_now e ≡ [] = ap (λ (l : List (ℕ × Item)). map (λ (x : ℕ × Item). x.1) l) empty in

@@ -5,12 +5,12 @@ use Rattle.sexpr_read.specs.Tree.{Forest, none, atom, list, Tree, leaf, branch, 
 use Rattle.sexpr_read.specs.Spelling.{SpellsAll}
 use Rattle.board_items.specs.declared.item.Item.{Item}
 use Rattle.board_items.specs.Boards.{PlainBoard}
-use Rattle.roundtrip_text.specs.Anew.{IsRespelled, AreAtoms}
+use Rattle.roundtrip_text.specs.RewrittenText.{IsRespelled, AreAtoms}
 use Rattle.roundtrip_text.specs.Utf8.{AreUtf8}
 use Rattle.roundtrip_text.proofs.Forms.{forms_atoms}
-use Rattle.roundtrip_lists.specs.Alike.{Shift}
-use Rattle.roundtrip_boards.specs.Changes.{Change, unchanged, takes_out, shifts, appends, IsListIn, Changes, ChangeAll}
-use Rattle.roundtrip_boards.specs.Written.{Draft, Added, is_gone, shift_of_unit, moved_unit, moved_if, with_list, with_change, with_changes, inside_of, span_of, added_one, added_trees}
+use Rattle.roundtrip_lists.specs.Translated.{Shift}
+use Rattle.roundtrip_boards.specs.TextChanges.{Change, unchanged, takes_out, shifts, appends, IsListIn, Changes, ChangeAll}
+use Rattle.roundtrip_boards.specs.WrittenBoard.{Draft, Added, is_gone, shift_of_unit, moved_unit, moved_if, with_list, with_change, with_changes, inside_of, span_of, added_one, added_trees}
 use Rattle.roundtrip_boards.proofs.Fitting.{unit_fits, unit_text}
 
 -- ---- each of them may be

@@ -7,8 +7,8 @@ use Rattle.board_items.specs.Boards.{PlainBoard}
 use Rattle.board_items.specs.Units.{first_named, is_shared, is_footprint_named_otherwise, found_by, found_of}
 use Rattle.roundtrip_lists.specs.Carried.{ItemsOf}
 use Rattle.pcb_read.specs.ItemText.{SaysList}
-use Rattle.roundtrip_boards.specs.Changes.{Change, unchanged, takes_out, shifts, appends, IsNamed, Changes, ChangeAll}
-use Rattle.roundtrip_boards.specs.Written.{Draft, with_change, with_changes}
+use Rattle.roundtrip_boards.specs.TextChanges.{Change, unchanged, takes_out, shifts, appends, IsNamed, Changes, ChangeAll}
+use Rattle.roundtrip_boards.specs.WrittenBoard.{Draft, with_change, with_changes}
 use Rattle.roundtrip_boards.specs.Ledger.{Entry, all_now, IsLedger, SameReads}
 use Rattle.roundtrip_boards.proofs.Ledger.{taken_out, moved_unit, appended, entries_with, kept_low, named_low}
 

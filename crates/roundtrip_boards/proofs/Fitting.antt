@@ -2,14 +2,14 @@
 use Rattle.std.proofs.Common.{◌≡◌, refl, sym, subst, Bool, true, false, cond, ℤ, List, codes, Option, None, Some}
 use Rattle.std.specs.Prelude.{nat_eq}
 use Rattle.sexpr_read.specs.Tree.{Forest, none, atom, list, trees}
-use Rattle.list_read.specs.Heads.{first_is}
-use Rattle.roundtrip_text.specs.Anew.{Fate, stays, leaves, IsRespelled, AreAtoms, IsFit, AreFit}
+use Rattle.list_read.specs.ListHeads.{first_is}
+use Rattle.roundtrip_text.specs.RewrittenText.{Disposition, stays, leaves, IsRespelled, AreAtoms, IsFit, AreFit}
 use Rattle.roundtrip_text.specs.Utf8.{AreUtf8, BecomesUtf8, BecomeUtf8}
-use Rattle.roundtrip_lists.specs.Alike.{Shift, place_moved}
+use Rattle.roundtrip_lists.specs.Translated.{Shift, place_moved}
 use Rattle.roundtrip_lists.specs.Moving.{put_if, moved}
 use Rattle.roundtrip_lists.proofs.Moving.{put_respelled, numbers_near, put_utf8, moved_respelled, moved_utf8}
 use Rattle.pcb_read.specs.BoardOf.{Reading}
-use Rattle.roundtrip_boards.specs.Written.{Draft, is_gone, shift_of_unit, first_at, moved_unit, fate_by, list_fate, FatesAre}
+use Rattle.roundtrip_boards.specs.WrittenBoard.{Draft, is_gone, shift_of_unit, first_at, moved_unit, disposition_by, list_disposition, DispositionsAre}
 
 respelled_itself : (f : Forest) → AreAtoms f → IsRespelled f f
 respelled_itself none h = tt
@@ -56,24 +56,24 @@ unit_text d i h = by_head (first_is (trees i) (codes "footprint"))
     by_head true = first_text d i h
     by_head false = moved_utf8 d i h
 
-fate_fits : (o : Option Shift) (i : Forest) → AreAtoms i → AreUtf8 i → IsFit i (fate_by o i) × BecomesUtf8 (fate_by o i)
-fate_fits None i a u = (tt, tt)
-fate_fits (Some d) i a u = (unit_fits d i a, unit_text d i u)
+disposition_fits : (o : Option Shift) (i : Forest) → AreAtoms i → AreUtf8 i → IsFit i (disposition_by o i) × BecomesUtf8 (disposition_by o i)
+disposition_fits None i a u = (tt, tt)
+disposition_fits (Some d) i a u = (unit_fits d i a, unit_text d i u)
 
-list_fits : (draft : Draft) (before after : Reading) (i : Forest) → AreAtoms i → AreUtf8 i → IsFit i (list_fate draft before after i) × BecomesUtf8 (list_fate draft before after i)
+list_fits : (draft : Draft) (before after : Reading) (i : Forest) → AreAtoms i → AreUtf8 i → IsFit i (list_disposition draft before after i) × BecomesUtf8 (list_disposition draft before after i)
 list_fits draft before after i a u = by_unit (nat_eq before.board.next_unit after.board.next_unit) (is_gone draft before.board.next_unit)
   where
-    by_unit : (b g : Bool) → let fate : Fate = cond b stays (cond g leaves (fate_by (shift_of_unit draft before.board.next_unit) i)) in IsFit i fate × BecomesUtf8 fate
+    by_unit : (b g : Bool) → let disposition : Disposition = cond b stays (cond g leaves (disposition_by (shift_of_unit draft before.board.next_unit) i)) in IsFit i disposition × BecomesUtf8 disposition
     by_unit true g = (tt, tt)
     by_unit false true = (tt, tt)
-    by_unit false false = fate_fits (shift_of_unit draft before.board.next_unit) i a u
+    by_unit false false = disposition_fits (shift_of_unit draft before.board.next_unit) i a u
 
--- the fates of all lists
-pub fates_fit : (draft : Draft) (f : Forest) (a : Reading) (fates : List Fate) → FatesAre draft a (trees f) fates → AreAtoms f → AreUtf8 f → AreFit fates f × BecomeUtf8 fates f
-fates_fit draft none a fates h atoms texts = (tt, tt)
-fates_fit draft (atom s q c others) a fates (next, more, says, rest, are) atoms texts =
-    subst (λ (l : List Fate). AreFit l others × BecomeUtf8 l others) (sym are) (fates_fit draft others next more rest atoms.1 texts.1)
-fates_fit draft (list s inside others) a fates (next, more, says, rest, are) atoms texts =
+-- the dispositions of all lists
+pub dispositions_fit : (draft : Draft) (f : Forest) (a : Reading) (dispositions : List Disposition) → DispositionsAre draft a (trees f) dispositions → AreAtoms f → AreUtf8 f → AreFit dispositions f × BecomeUtf8 dispositions f
+dispositions_fit draft none a dispositions h atoms texts = (tt, tt)
+dispositions_fit draft (atom s q c others) a dispositions (next, more, says, rest, are) atoms texts =
+    subst (λ (l : List Disposition). AreFit l others × BecomeUtf8 l others) (sym are) (dispositions_fit draft others next more rest atoms.1 texts.1)
+dispositions_fit draft (list s inside others) a dispositions (next, more, says, rest, are) atoms texts =
     let k = list_fits draft a next inside atoms.0 texts.0 in
-    let r = fates_fit draft others next more rest atoms.1 texts.1 in
-    subst (λ (l : List Fate). AreFit l (list s inside others) × BecomeUtf8 l (list s inside others)) (sym are) ((k.0, r.0), (k.1, r.1))
+    let r = dispositions_fit draft others next more rest atoms.1 texts.1 in
+    subst (λ (l : List Disposition). AreFit l (list s inside others) × BecomeUtf8 l (list s inside others)) (sym are) ((k.0, r.0), (k.1, r.1))

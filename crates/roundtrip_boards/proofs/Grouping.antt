@@ -6,8 +6,8 @@ use Rattle.board_items.specs.declared.item.Item.{Item}
 use Rattle.board_items.specs.Boards.{PlainBoard}
 use Rattle.pcb_read.specs.BoardOf.{with_items}
 use Rattle.roundtrip_boards.specs.Roots.{with_units}
-use Rattle.roundtrip_boards.specs.Written.{Draft}
-use Rattle.roundtrip_boards.specs.Same.{IsSameItem}
+use Rattle.roundtrip_boards.specs.WrittenBoard.{Draft}
+use Rattle.roundtrip_boards.specs.SameBoards.{IsSameItem}
 use Rattle.roundtrip_boards.specs.Ledger.{Entry, all_now, AreOf, AreKept}
 use Rattle.roundtrip_boards.proofs.Ledger.{numbered, with_numbered, numbered_of, next_with, UnitsOf}
 use Rattle.roundtrip_lists.specs.Carried.{of_unit}

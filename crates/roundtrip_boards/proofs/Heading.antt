@@ -5,15 +5,15 @@ use Rattle.std.specs.Prelude.{nat_eq, bytes_eq}
 use Rattle.sexpr_read.specs.declared.place.Span.{Span}
 use Rattle.sexpr_read.specs.Tree.{Forest, none, atom, list, Tree, leaf, branch, trees, unescaped}
 use Rattle.board_errors.specs.declared.errors.BoardError.{BoardError}
-use Rattle.list_read.specs.Answers.{◌>>=◌, check}
-use Rattle.list_read.specs.Heads.{has_head}
-use Rattle.roundtrip_text.specs.Anew.{Fate, stays, first_fate, IsThere, FirstIsThere}
+use Rattle.list_read.specs.FirstRefusals.{◌>>=◌, check}
+use Rattle.list_read.specs.ListHeads.{has_head}
+use Rattle.roundtrip_text.specs.RewrittenText.{Disposition, stays, first_disposition, IsThere, FirstIsThere}
 use Rattle.pcb_read.specs.declared.sorts.Sort.{Sort}
 use Rattle.pcb_read.specs.Nets.{with_net_of}
 use Rattle.pcb_read.specs.Sorts.{sort_by, sort_of}
 use Rattle.pcb_read.specs.BoardOf.{Reading, with_layers, with_board, with_other, version_in, header_in, SaysPartBy, SaysPart}
 use Rattle.roundtrip_boards.proofs.Ledger.{same_unit}
-use Rattle.roundtrip_boards.specs.Written.{Draft, unit_fate, list_fate, FatesAre}
+use Rattle.roundtrip_boards.specs.WrittenBoard.{Draft, unit_disposition, list_disposition, DispositionsAre}
 
 clash : {A : Type 0} {e : BoardError} {x : A} → Err e ≡ Ok x → ⊥
 clash e = let c = e in cc
@@ -54,13 +54,13 @@ version_first : (s t r : Span) (q : Bool) (c : List ℕ) (i others : Forest) (u 
 unfolding header_in version_in
 version_first s t r q c i others u h = (holds _ (has_head (codes "version") (branch r i)) _ u (holds _ (has_head (codes "kicad_pcb") (branch s (atom t q c (list r i others)))) _ u h).1).0
 
-pub first_there : (draft : Draft) (a : Reading) (fates : List Fate) (s t : Span) (q : Bool) (c : List ℕ) (f : Forest) (u : Unit {0}) → header_in (branch s (atom t q c f)) ≡ Ok u → FatesAre draft a (trees f) fates → FirstIsThere fates f
-first_there draft a fates s t q c none u h are = tt
-first_there draft a fates s t q c (atom r p e others) u h are = tt
-first_there draft a fates s t q c (list r i others) u h (next, more, says, rest, is) =
+pub first_there : (draft : Draft) (a : Reading) (dispositions : List Disposition) (s t : Span) (q : Bool) (c : List ℕ) (f : Forest) (u : Unit {0}) → header_in (branch s (atom t q c f)) ≡ Ok u → DispositionsAre draft a (trees f) dispositions → FirstIsThere dispositions f
+first_there draft a dispositions s t q c none u h are = tt
+first_there draft a dispositions s t q c (atom r p e others) u h are = tt
+first_there draft a dispositions s t q c (list r i others) u h (next, more, says, rest, is) =
     let same : next ≡ a = version_part a next r i (version_first s t r q c i others u h) says in
-    subst (λ (l : List Fate). IsThere (first_fate l)) (sym is) (subst (λ (x : Reading). IsThere (list_fate draft a x i)) (sym same) (stays_there (nat_eq a.board.next_unit a.board.next_unit) (same_unit a.board.next_unit a.board.next_unit refl)))
+    subst (λ (l : List Disposition). IsThere (first_disposition l)) (sym is) (subst (λ (x : Reading). IsThere (list_disposition draft a x i)) (sym same) (stays_there (nat_eq a.board.next_unit a.board.next_unit) (same_unit a.board.next_unit a.board.next_unit refl)))
   where
-    stays_there : (b : Bool) → b ≡ true → IsThere (cond b stays (unit_fate draft i (Some a.board.next_unit)))
+    stays_there : (b : Bool) → b ≡ true → IsThere (cond b stays (unit_disposition draft i (Some a.board.next_unit)))
     stays_there true e = tt
     stays_there false e = absurd (no_version e)

@@ -20,12 +20,12 @@ use Rattle.board_items.specs.declared.item.Hole.{Hole}
 use Rattle.board_items.specs.Boards.{PlainBoard, with_item, is_near, is_on_board}
 use Rattle.pcb_read.specs.BoardOf.{with_items}
 use Rattle.board_items.specs.Units.{without_unit, first_named}
-use Rattle.board_items.specs.Moves.{IsShiftedPart, AreShifted, HoleIsShifted, KindIsShifted, IsShiftedItem, is_note, moves, item_stays, unit_stays as units_stay, IsMovedEntry, IsMoved}
-use Rattle.roundtrip_lists.specs.Alike.{Shift}
+use Rattle.board_items.specs.ItemMoves.{IsShiftedPart, AreShifted, HoleIsShifted, KindIsShifted, IsShiftedItem, is_note, moves, item_stays, unit_stays as units_stay, IsMovedEntry, IsMoved}
+use Rattle.roundtrip_lists.specs.Translated.{Shift}
 use Rattle.roundtrip_lists.specs.Carried.{shift_of, IsCarried, ItemsOf}
 use Rattle.roundtrip_lists.proofs.Composing.{carried_both}
-use Rattle.roundtrip_boards.specs.Changes.{takes_out, shifts, appends}
-use Rattle.roundtrip_boards.specs.Written.{Draft, with_change, is_gone, plus, summed, shift_of_unit}
+use Rattle.roundtrip_boards.specs.TextChanges.{takes_out, shifts, appends}
+use Rattle.roundtrip_boards.specs.WrittenBoard.{Draft, with_change, is_gone, plus, summed, shift_of_unit}
 use Rattle.roundtrip_boards.specs.Ledger.{Entry, all_now, IsNow, AreNow, AreOf, IsKept, AreKept, IsLedger, SameReads}
 
 -- ---- tests on units

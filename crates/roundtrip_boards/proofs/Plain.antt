@@ -6,16 +6,16 @@ use Rattle.board_errors.specs.declared.errors.BoardError.{BoardError}
 use Rattle.copper_layers.specs.declared.set.LayerSet.{LayerSet}
 use Rattle.board_items.specs.declared.item.Item.{Item}
 use Rattle.board_items.specs.Boards.{PlainBoard, name_of, with_net}
-use Rattle.list_read.specs.Answers.{◌>>=◌}
-use Rattle.list_read.specs.Heads.{has_head}
-use Rattle.part_read.specs.Elements.{atom_of}
+use Rattle.list_read.specs.FirstRefusals.{◌>>=◌}
+use Rattle.list_read.specs.ListHeads.{has_head}
+use Rattle.part_read.specs.ElementResults.{atom_of}
 use Rattle.part_read.specs.LayersWhere.{layers_of_any}
-use Rattle.part_read.specs.LayersOf.{layer_set, each_set, listed, layers_listed}
+use Rattle.part_read.specs.BoardLayers.{layer_set, each_set, listed, layers_listed}
 use Rattle.footprint_read.proofs.OneAnswer.{one_answer}
-use Rattle.roundtrip_lists.specs.Alike.{Alike, AlikeTrees}
+use Rattle.roundtrip_lists.specs.Translated.{Translated, TranslatedTrees}
 use Rattle.roundtrip_lists.specs.Agreeing.{Agrees, Same, SameAtom}
-use Rattle.roundtrip_lists.proofs.Elements.{agrees_bind, agrees_both, atom_alike}
-use Rattle.roundtrip_lists.proofs.Numbers.{layer_number_alike}
+use Rattle.roundtrip_lists.proofs.Elements.{agrees_bind, agrees_both, atom_translated}
+use Rattle.roundtrip_lists.proofs.Numbers.{layer_number_translated}
 use Rattle.pcb_read.specs.declared.sorts.Sort.{Sort}
 use Rattle.pcb_read.specs.declared.sorts.Sort.TheVariants.{Track, Via, Arc, Graphic, Curve, Text, Zone, Footprint}
 use Rattle.pcb_read.specs.Sorts.{sort_by, sort_of}
@@ -84,34 +84,34 @@ net_keeps b n name = by_test (is_some (name_of b n))
 
 -- ---- the list of layers
 
-listed_alike : (t u : Tree) → AlikeTrees None t u → Agrees Same (listed t) (listed u)
+listed_translated : (t u : Tree) → TranslatedTrees None t u → Agrees Same (listed t) (listed u)
 unfolding listed
-listed_alike (leaf s q c) (leaf r p e) h = refl
-listed_alike (leaf s q c) (branch r j) h = absurd h
-listed_alike (branch s i) (leaf r p e) h = absurd h
-listed_alike (branch s i) (branch r j) h =
-    agrees_bind SameAtom Same (atom_of 1 (branch s i)) (atom_of 1 (branch r j)) _ _ (agrees_both SameAtom (atom_of 1 (branch s i)) (atom_of 1 (branch r j)) (atom_alike None 1 (branch s i) (branch r j) h))
-    (λ x y k. ap layer_set (layer_number_alike x y k))
+listed_translated (leaf s q c) (leaf r p e) h = refl
+listed_translated (leaf s q c) (branch r j) h = absurd h
+listed_translated (branch s i) (leaf r p e) h = absurd h
+listed_translated (branch s i) (branch r j) h =
+    agrees_bind SameAtom Same (atom_of 1 (branch s i)) (atom_of 1 (branch r j)) _ _ (agrees_both SameAtom (atom_of 1 (branch s i)) (atom_of 1 (branch r j)) (atom_translated None 1 (branch s i) (branch r j) h))
+    (λ x y k. ap layer_set (layer_number_translated x y k))
 
-each_alike : (f g : Forest) → Alike None f g → Agrees Same (each_set listed (trees f)) (each_set listed (trees g))
-each_alike none none h = refl
-each_alike none (atom t r e rest) h = absurd h
-each_alike none (list t within rest) h = absurd h
-each_alike (atom s q c others) none h = absurd h
-each_alike (atom s q c others) (list t within rest) h = absurd h
-each_alike (list s inside others) none h = absurd h
-each_alike (list s inside others) (atom t r e rest) h = absurd h
-each_alike (atom s q c others) (atom t r e rest) h =
-    agrees_bind Same Same (listed (leaf s q c)) (listed (leaf t r e)) _ _ (listed_alike (leaf s q c) (leaf t r e) (h.0, h.1))
-    (λ x y k. agrees_bind Same Same (each_set listed (trees others)) (each_set listed (trees rest)) _ _ (each_alike others rest h.2) (λ z w l. ap (λ (m : List LayerSet). m ++ w) k ∙ ap (λ (m : List LayerSet). x ++ m) l))
-each_alike (list s inside others) (list t within rest) h =
-    agrees_bind Same Same (listed (branch s inside)) (listed (branch t within)) _ _ (listed_alike (branch s inside) (branch t within) h.0)
-    (λ x y k. agrees_bind Same Same (each_set listed (trees others)) (each_set listed (trees rest)) _ _ (each_alike others rest h.1) (λ z w l. ap (λ (m : List LayerSet). m ++ w) k ∙ ap (λ (m : List LayerSet). x ++ m) l))
+each_translated : (f g : Forest) → Translated None f g → Agrees Same (each_set listed (trees f)) (each_set listed (trees g))
+each_translated none none h = refl
+each_translated none (atom t r e rest) h = absurd h
+each_translated none (list t within rest) h = absurd h
+each_translated (atom s q c others) none h = absurd h
+each_translated (atom s q c others) (list t within rest) h = absurd h
+each_translated (list s inside others) none h = absurd h
+each_translated (list s inside others) (atom t r e rest) h = absurd h
+each_translated (atom s q c others) (atom t r e rest) h =
+    agrees_bind Same Same (listed (leaf s q c)) (listed (leaf t r e)) _ _ (listed_translated (leaf s q c) (leaf t r e) (h.0, h.1))
+    (λ x y k. agrees_bind Same Same (each_set listed (trees others)) (each_set listed (trees rest)) _ _ (each_translated others rest h.2) (λ z w l. ap (λ (m : List LayerSet). m ++ w) k ∙ ap (λ (m : List LayerSet). x ++ m) l))
+each_translated (list s inside others) (list t within rest) h =
+    agrees_bind Same Same (listed (branch s inside)) (listed (branch t within)) _ _ (listed_translated (branch s inside) (branch t within) h.0)
+    (λ x y k. agrees_bind Same Same (each_set listed (trees others)) (each_set listed (trees rest)) _ _ (each_translated others rest h.1) (λ z w l. ap (λ (m : List LayerSet). m ++ w) k ∙ ap (λ (m : List LayerSet). x ++ m) l))
 
-pub layers_alike : (s r : Span) (i j : Forest) → Alike None i j → Agrees Same (layers_listed (branch s i)) (layers_listed (branch r j))
+pub layers_translated : (s r : Span) (i j : Forest) → Translated None i j → Agrees Same (layers_listed (branch s i)) (layers_listed (branch r j))
 unfolding layers_listed
-layers_alike s r i j h =
-    agrees_bind Same Same (each_set listed (trees i)) (each_set listed (trees j)) _ _ (each_alike i j h) (λ x y k. ap layers_of_any k)
+layers_translated s r i j h =
+    agrees_bind Same Same (each_set listed (trees i)) (each_set listed (trees j)) _ _ (each_translated i j h) (λ x y k. ap layers_of_any k)
 
 -- ---- sorts
 

@@ -5,20 +5,20 @@ use Rattle.std.proofs.lemmas.List.{length-map}
 use Rattle.sexpr_read.specs.Tree.{Tree}
 use Rattle.board_items.specs.declared.item.Item.{Item}
 use Rattle.board_items.specs.Boards.{PlainBoard, with_item}
-use Rattle.board_items.specs.Refusals.{room_of}
+use Rattle.board_items.specs.ItemRefusals.{capacity_of}
 use Rattle.board_errors.specs.declared.errors.BoardError.{BoardError}
-use Rattle.roundtrip_lists.specs.Alike.{AlikeTrees}
-use Rattle.list_read.specs.Answers.{◌>>=◌}
+use Rattle.roundtrip_lists.specs.Translated.{TranslatedTrees}
+use Rattle.list_read.specs.FirstRefusals.{◌>>=◌}
 use Rattle.pcb_read.specs.declared.sorts.Sort.{Sort}
 use Rattle.pcb_read.specs.Sorts.{sort_of}
-use Rattle.pcb_read.specs.ItemsOf.{SaysItems, has_room}
+use Rattle.pcb_read.specs.ItemsOf.{SaysItems, has_capacity}
 use Rattle.pcb_read.specs.BoardOf.{Reading, with_items, with_other, with_board, SaysPartBy, SaysPart, SaysParts}
 use Rattle.roundtrip_lists.specs.Carried.{of_unit}
-use Rattle.roundtrip_boards.specs.Roots.{SameGround, SameItems, with_units, total, Goes, ends, stays, leaves, keeps}
+use Rattle.roundtrip_boards.specs.Roots.{SameLayersAndNets, SameItems, with_units, total, Goes, ends, stays, leaves, keeps}
 
 -- ---- boards with more items
 
-pub same_with : (board : PlainBoard) (items : List Item) → SameGround board (with_items board items)
+pub same_with : (board : PlainBoard) (items : List Item) → SameLayersAndNets board (with_items board items)
 same_with board [] = record { copper = refl; nets = refl }
 same_with board (item ∷ items) = let k = same_with (with_item board item) items in record { copper = k.copper; nets = k.nets }
 
@@ -54,12 +54,12 @@ fresh_by board (item ∷ items) h =
     let units = h.units in
     record { ids = omega (arith, n, i, ids); units = omega (arith, n, u, units, l) }
 
-pub room_there : (board : PlainBoard) (items : List Item) → IsFresh board → length board.items + length items ≤ 200000 → has_room board board.next_unit items ≡ true
-room_there board [] h few = refl
-room_there board (item ∷ items) h few =
+pub capacity_there : (board : PlainBoard) (items : List Item) → IsFresh board → length board.items + length items ≤ 200000 → has_capacity board board.next_unit items ≡ true
+capacity_there board [] h few = refl
+capacity_there board (item ∷ items) h few =
     let ids = h.ids in
     let units = h.units in
-    both (leb (length (item ∷ items)) (room_of board)) (ltb board.next_unit 4294967295) (le-leb (length (item ∷ items)) (room_of board) (omega (arith, ids))) (lt-ltb board.next_unit 4294967295 (omega (arith, units)))
+    both (leb (length (item ∷ items)) (capacity_of board)) (ltb board.next_unit 4294967295) (le-leb (length (item ∷ items)) (capacity_of board) (omega (arith, ids))) (lt-ltb board.next_unit 4294967295 (omega (arith, units)))
   where
     both : (a b : Bool) → a ≡ true → b ≡ true → a && b ≡ true
     both true true h k = refl
@@ -93,42 +93,42 @@ fresh_same a b h f = record { ids = h.ids ∙ f.ids ∙ sym (ap length h.items);
 
 -- what is read of the other board: on the same ground, with these units
 pub record Reads (z y : Reading) (board : PlainBoard) (units : List (List Item)) : Type 0 where
-  pub ground : SameGround z.board y.board
+  pub ground : SameLayersAndNets z.board y.board
   pub layered : y.layered ≡ z.layered
   pub same : SameItems (with_units board units) y.board
   pub fresh : IsFresh y.board
 
 module _ (Carries : Sort → Tree → Tree → List Item → List Item → Type 0)
-    (carried : (sort : Sort) (board other : PlainBoard) (unit : ℕ) (t u : Tree) (items now : List Item) → SameGround board other → SaysItems board unit t sort (Ok items) → Carries sort t u items now
-    → has_room other other.next_unit now ≡ true → SaysItems other other.next_unit u sort (Ok (of_unit other.next_unit now)))
+    (carried : (sort : Sort) (board other : PlainBoard) (unit : ℕ) (t u : Tree) (items now : List Item) → SameLayersAndNets board other → SaysItems board unit t sort (Ok items) → Carries sort t u items now
+    → has_capacity other other.next_unit now ≡ true → SaysItems other other.next_unit u sort (Ok (of_unit other.next_unit now)))
     (as_long : (sort : Sort) (t u : Tree) (items now : List Item) → Carries sort t u items now → length now ≡ length items)
-    (plain : (t u : Tree) → AlikeTrees None t u → sort_of t ≡ sort_of u)
-    (others : (t u : Tree) (a b next : Reading) → AlikeTrees None t u → SameGround a.board b.board → b.layered ≡ a.layered → with_other a t ≡ Ok next
-    → (new : Reading) × (with_other b u ≡ Ok new) × SameGround next.board new.board × (new.layered ≡ next.layered) × SameItems b.board new.board) where
+    (plain : (t u : Tree) → TranslatedTrees None t u → sort_of t ≡ sort_of u)
+    (others : (t u : Tree) (a b next : Reading) → TranslatedTrees None t u → SameLayersAndNets a.board b.board → b.layered ≡ a.layered → with_other a t ≡ Ok next
+    → (new : Reading) × (with_other b u ≡ Ok new) × SameLayersAndNets next.board new.board × (new.layered ≡ next.layered) × SameItems b.board new.board) where
   -- a unit leaves the ground as it was
-  unit_ground : (a next : Reading) (t : Tree) (sort : Sort) → SaysPartBy a t (Some sort) (Ok next) → SameGround a.board next.board × (next.layered ≡ a.layered)
+  unit_ground : (a next : Reading) (t : Tree) (sort : Sort) → SaysPartBy a t (Some sort) (Ok next) → SameLayersAndNets a.board next.board × (next.layered ≡ a.layered)
   unit_ground a next t sort (board, (items, says, with), is) = by_items items board with is
     where
-      by_items : (items : Result (List Item) BoardError) (board : Result PlainBoard BoardError) → board ≡ (items >>= λ found. Ok (with_items a.board found)) → Ok next ≡ with_board a board → SameGround a.board next.board × (next.layered ≡ a.layered)
+      by_items : (items : Result (List Item) BoardError) (board : Result PlainBoard BoardError) → board ≡ (items >>= λ found. Ok (with_items a.board found)) → Ok next ≡ with_board a board → SameLayersAndNets a.board next.board × (next.layered ≡ a.layered)
       by_items (Err e) board w i = absurd (let k : Ok next ≡ with_board a (Err e) = i ∙ ap (with_board a) w in cc)
       by_items (Ok found) board w i =
           let k : Ok next ≡ with_board a (Ok (with_items a.board found)) = i ∙ ap (with_board a) w in
           let same : record a { board = with_items a.board found } ≡ next = cc in
-          subst (λ (r : Reading). SameGround a.board r.board × (r.layered ≡ a.layered)) same (same_with a.board found, refl)
+          subst (λ (r : Reading). SameLayersAndNets a.board r.board × (r.layered ≡ a.layered)) same (same_with a.board found, refl)
 
-  join : {a b c : PlainBoard} → SameGround a b → SameGround b c → SameGround a c
+  join : {a b c : PlainBoard} → SameLayersAndNets a b → SameLayersAndNets b c → SameLayersAndNets a c
   join h k = record { copper = k.copper ∙ h.copper; nets = k.nets ∙ h.nets }
 
-  over : {a b c : PlainBoard} → SameGround a b → SameGround a c → SameGround b c
+  over : {a b c : PlainBoard} → SameLayersAndNets a b → SameLayersAndNets a c → SameLayersAndNets b c
   over h k = record { copper = k.copper ∙ sym h.copper; nets = k.nets ∙ sym h.nets }
 
-  pub transfer : {a z : Reading} {ts us : List Tree} {units : List (List Item)} → Goes Carries a ts z us units → (b : Reading) → SameGround a.board b.board → b.layered ≡ a.layered → IsFresh b.board
+  pub transfer : {a z : Reading} {ts us : List Tree} {units : List (List Item)} → Goes Carries a ts z us units → (b : Reading) → SameLayersAndNets a.board b.board → b.layered ≡ a.layered → IsFresh b.board
       → length b.board.items + total units ≤ 200000 → (y : Reading) × SaysParts b us (Ok y) × Reads z y b.board units
   transfer ends b ground layered fresh few = (b, refl, record { ground = ground; layered = layered; same = record { items = refl; ids = refl; units = refl }; fresh = fresh })
-  transfer (stays {a = a} {next = next} {t = t} {u = u} {us = us} {units = units} none alike says goes) b ground layered fresh few =
+  transfer (stays {a = a} {next = next} {t = t} {u = u} {us = us} {units = units} none translated says goes) b ground layered fresh few =
       let read : Ok next ≡ with_other a t = subst (λ (s : Option Sort). SaysPartBy a t s (Ok next)) none says in
-      let k = others t u a b next alike ground layered (sym read) in
-      let none_too : sort_of u ≡ None = sym (plain t u alike) ∙ none in
+      let k = others t u a b next translated ground layered (sym read) in
+      let none_too : sort_of u ≡ None = sym (plain t u translated) ∙ none in
       let says_too : SaysPart b u (Ok k.0) = subst (λ (s : Option Sort). SaysPartBy b u s (Ok k.0)) (sym none_too) (sym k.1) in
       let count : length k.0.board.items ≡ length b.board.items = ap length k.4.items in
       let rest = transfer goes k.0 k.2 k.3 (fresh_same b.board k.0.board k.4 fresh) (omega (arith, count)) in
@@ -137,14 +137,14 @@ module _ (Carries : Sort → Tree → Tree → List Item → List Item → Type 
       let k = unit_ground a next t sort (subst (λ (s : Option Sort). SaysPartBy a t s (Ok next)) is says) in
       transfer goes b (over k.0 ground) (layered ∙ sym k.1) fresh few
   transfer (keeps {a = a} {next = next} {t = t} {u = u} {items = items} {now = now} {units = units} sort is so says carries to goes) b ground layered fresh few =
-      let room : has_room b.board b.board.next_unit now ≡ true = room_there b.board now fresh (omega arith) in
-      let found = carried sort a.board b.board a.board.next_unit t u items now ground says carries room in
+      let capacity : has_capacity b.board b.board.next_unit now ≡ true = capacity_there b.board now fresh (omega arith) in
+      let found = carried sort a.board b.board a.board.next_unit t u items now ground says carries capacity in
       let more : List Item = of_unit b.board.next_unit now in
       let board : PlainBoard = with_items b.board more in
       let new : Reading = record b { board = board } in
       let says_too : SaysPart b u (Ok new) = subst (λ (s : Option Sort). SaysPartBy b u s (Ok new)) (sym so) (Ok board, (Ok more, found, refl), refl) in
-      let there : SameGround next.board board =
-      over (subst (λ (r : Reading). SameGround a.board r.board) (sym to) (same_with a.board items)) (join ground (same_with b.board more)) in
+      let there : SameLayersAndNets next.board board =
+      over (subst (λ (r : Reading). SameLayersAndNets a.board r.board) (sym to) (same_with a.board items)) (join ground (same_with b.board more)) in
       let l : length more ≡ length now = length-map now (λ (x : Item). record x { unit = b.board.next_unit }) in
       let count = count_with b.board more in
       let rest = transfer goes new there (layered ∙ sym (ap (λ (r : Reading). r.layered) to)) (fresh_by b.board now fresh) (omega (arith, l, count)) in

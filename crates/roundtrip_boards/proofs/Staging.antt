@@ -5,9 +5,9 @@ use Rattle.board_items.specs.declared.item.Item.{Item}
 use Rattle.board_items.specs.Boards.{PlainBoard}
 use Rattle.roundtrip_lists.specs.Carried.{ItemsOf}
 use Rattle.pcb_read.specs.ItemText.{SaysList}
-use Rattle.roundtrip_boards.specs.Roots.{SameGround}
-use Rattle.roundtrip_boards.specs.Changes.{Change, unchanged, takes_out, shifts, appends, Changes, ChangeAll}
-use Rattle.roundtrip_boards.specs.Written.{Draft, Added, with_change, with_changes}
+use Rattle.roundtrip_boards.specs.Roots.{SameLayersAndNets}
+use Rattle.roundtrip_boards.specs.TextChanges.{Change, unchanged, takes_out, shifts, appends, Changes, ChangeAll}
+use Rattle.roundtrip_boards.specs.WrittenBoard.{Draft, Added, with_change, with_changes}
 use Rattle.roundtrip_boards.specs.Ledger.{Entry, AreKept, IsLedger, SameReads}
 use Rattle.roundtrip_boards.specs.AddedReads.{WasRead, AddedRead, ends, nothing as without_items, unit as with_unit}
 use Rattle.roundtrip_boards.proofs.Roots.{same_with}
@@ -60,18 +60,18 @@ module _ (ready : (board : PlainBoard) (list : Tree) (items : List Item) → Say
     pub texts : List Entry
     pub news : List Entry
     pub ledger : IsLedger draft (texts ++ news) board
-    pub same : SameGround ground board
+    pub same : SameLayersAndNets ground board
     pub of_text : SameReads first texts
     pub added : AddedRead ground (length first) draft.added news
 
-  same_after : (board new : PlainBoard) (change : Change) → SameGround ground board → Changes board change new → SameGround ground new
-  same_after board new unchanged h e = subst (SameGround ground) (sym e) h
-  same_after board new (takes_out u) h (named, e) = subst (SameGround ground) (sym e) (record { copper = h.copper; nets = h.nets })
-  same_after board new (shifts u by) h (named, stay, m) = subst (SameGround ground) (sym m.others) (record { copper = h.copper; nets = h.nets })
-  same_after board new (appends list items) h (added, e) = let k = same_with board items in subst (SameGround ground) (sym e) (record { copper = k.copper ∙ h.copper; nets = k.nets ∙ h.nets })
+  same_after : (board new : PlainBoard) (change : Change) → SameLayersAndNets ground board → Changes board change new → SameLayersAndNets ground new
+  same_after board new unchanged h e = subst (SameLayersAndNets ground) (sym e) h
+  same_after board new (takes_out u) h (named, e) = subst (SameLayersAndNets ground) (sym e) (record { copper = h.copper; nets = h.nets })
+  same_after board new (shifts u by) h (named, stay, m) = subst (SameLayersAndNets ground) (sym m.others) (record { copper = h.copper; nets = h.nets })
+  same_after board new (appends list items) h (added, e) = let k = same_with board items in subst (SameLayersAndNets ground) (sym e) (record { copper = k.copper ∙ h.copper; nets = k.nets ∙ h.nets })
 
   -- where the same units were read
-  plain_stage : (draft next : Draft) (board new : PlainBoard) (s : Stage draft board) (fs : List Entry) → IsLedger next fs new → SameGround ground new → SameReads (s.texts ++ s.news) fs → next.added ≡ draft.added → Stage next new
+  plain_stage : (draft next : Draft) (board new : PlainBoard) (s : Stage draft board) (fs : List Entry) → IsLedger next fs new → SameLayersAndNets ground new → SameReads (s.texts ++ s.news) fs → next.added ≡ draft.added → Stage next new
   plain_stage draft next board new s fs ledger same reads e =
       let k = split_reads s.texts s.news fs reads in
       record {
@@ -83,7 +83,7 @@ module _ (ready : (board : PlainBoard) (list : Tree) (items : List Item) → Say
         added = subst (λ (l : List Added). AddedRead ground (length first) l k.1) (sym e) (same_reads ground s.added k.1 k.4);
       }
 
-  added_stage : (draft : Draft) (board new : PlainBoard) (s : Stage draft board) (tree : Tree) (items : List Item) (fs : List Entry) → SaysList board board.next_unit tree (Ok items) → IsLedger (with_change draft (appends tree items)) fs new → SameGround ground new
+  added_stage : (draft : Draft) (board new : PlainBoard) (s : Stage draft board) (tree : Tree) (items : List Item) (fs : List Entry) → SaysList board board.next_unit tree (Ok items) → IsLedger (with_change draft (appends tree items)) fs new → SameLayersAndNets ground new
       → SameReads (entries_with (s.texts ++ s.news) board items) fs → Stage (with_change draft (appends tree items)) new
   unfolding entries_with
   added_stage draft board new s tree [] fs says ledger same reads =
@@ -113,7 +113,7 @@ module _ (ready : (board : PlainBoard) (list : Tree) (items : List Item) → Say
       }
 
   one_stage : (draft : Draft) (board new : PlainBoard) (s : Stage draft board) (change : Change) (fs : List Entry) → Changes board change new
-      → IsLedger (with_change draft change) fs new → SameGround ground new → SameReads (after_change (s.texts ++ s.news) board change) fs → Stage (with_change draft change) new
+      → IsLedger (with_change draft change) fs new → SameLayersAndNets ground new → SameReads (after_change (s.texts ++ s.news) board change) fs → Stage (with_change draft change) new
   one_stage draft board new s unchanged fs one ledger same reads = plain_stage draft draft board new s fs ledger same reads refl
   one_stage draft board new s (takes_out u) fs one ledger same reads = plain_stage draft (with_change draft (takes_out u)) board new s fs ledger same reads refl
   one_stage draft board new s (shifts u by) fs one ledger same reads = plain_stage draft (with_change draft (shifts u by)) board new s fs ledger same reads refl

@@ -4,14 +4,14 @@ use Rattle.sexpr_read.specs.Tree.{Tree}
 use Rattle.board_errors.specs.declared.errors.BoardError.{BoardError}
 use Rattle.board_items.specs.declared.item.Item.{Item}
 use Rattle.board_items.specs.Boards.{PlainBoard}
-use Rattle.list_read.specs.Answers.{◌>>=◌}
+use Rattle.list_read.specs.FirstRefusals.{◌>>=◌}
 use Rattle.roundtrip_lists.specs.Carried.{ItemsOf}
 use Rattle.pcb_read.specs.declared.sorts.Sort.{Sort}
 use Rattle.pcb_read.specs.Sorts.{sort_of}
 use Rattle.pcb_read.specs.ItemsOf.{SaysItems}
 use Rattle.pcb_read.specs.BoardOf.{Reading, with_items, with_other, with_board, SaysPartBy, SaysParts}
-use Rattle.roundtrip_boards.specs.Changes.{appends}
-use Rattle.roundtrip_boards.specs.Written.{Draft, untouched, with_change, is_gone, shift_of_unit}
+use Rattle.roundtrip_boards.specs.TextChanges.{appends}
+use Rattle.roundtrip_boards.specs.WrittenBoard.{Draft, untouched, with_change, is_gone, shift_of_unit}
 use Rattle.roundtrip_boards.specs.Ledger.{Entry, AreKept, IsLedger}
 use Rattle.roundtrip_boards.specs.Reads.{Takes, IsUnit, TextReads}
 use Rattle.roundtrip_boards.proofs.Ledger.{same_kept, appended, entries_with, numbered}

@@ -8,22 +8,22 @@ use Rattle.board_errors.specs.declared.errors.BoardError.{BoardError}
 use Rattle.board_items.specs.declared.item.Item.{Item}
 use Rattle.board_items.specs.Boards.{PlainBoard}
 use Rattle.roundtrip_text.specs.Pieces.{SameTrees}
-use Rattle.roundtrip_text.specs.Anew.{Fate, insides, insides_after}
+use Rattle.roundtrip_text.specs.RewrittenText.{Disposition, insides, insides_after}
 use Rattle.roundtrip_text.specs.Edited.{SpellsEdited}
-use Rattle.roundtrip_lists.specs.Alike.{Shift, Alike, AlikeTrees}
+use Rattle.roundtrip_lists.specs.Translated.{Shift, Translated, TranslatedTrees}
 use Rattle.roundtrip_lists.specs.Carried.{shift_of, of_unit, ItemsOf}
 use Rattle.pcb_read.specs.declared.sorts.Sort.{Sort}
 use Rattle.pcb_read.specs.Sorts.{sort_of}
-use Rattle.pcb_read.specs.ItemsOf.{SaysItems, has_room}
+use Rattle.pcb_read.specs.ItemsOf.{SaysItems, has_capacity}
 use Rattle.pcb_read.specs.ItemText.{SaysBy, SaysList}
 use Rattle.pcb_read.specs.BoardOf.{Reading, unread, with_items, with_other, SaysPartBy, SaysParts}
-use Rattle.roundtrip_boards.specs.Roots.{SameGround, SameItems, with_units, total, Goes}
-use Rattle.roundtrip_boards.specs.Changes.{Change, ChangeAll}
-use Rattle.roundtrip_boards.specs.Written.{Draft, untouched, with_changes, moved_if, added_trees, FatesAre}
+use Rattle.roundtrip_boards.specs.Roots.{SameLayersAndNets, SameItems, with_units, total, Goes}
+use Rattle.roundtrip_boards.specs.TextChanges.{Change, ChangeAll}
+use Rattle.roundtrip_boards.specs.WrittenBoard.{Draft, untouched, with_changes, moved_if, added_trees, DispositionsAre}
 use Rattle.roundtrip_boards.specs.Ledger.{Entry, all_now, AreNow, AreKept, IsLedger, SameReads}
 use Rattle.roundtrip_boards.specs.Reads.{IsUnit, TextReads}
 use Rattle.roundtrip_boards.specs.AddedReads.{AddedRead, ends}
-use Rattle.roundtrip_boards.specs.Same.{IsSameItem}
+use Rattle.roundtrip_boards.specs.SameBoards.{IsSameItem}
 use Rattle.roundtrip_boards.proofs.Roots.{same_units, count_with, transfer}
 use Rattle.roundtrip_boards.proofs.Commands.{ReadsFrom, same_itself, reads_same}
 use Rattle.roundtrip_boards.proofs.Following.{branches, HaveInsides, items_now, follows}
@@ -97,13 +97,13 @@ units_join : (c : PlainBoard) (es fs : List Entry) → with_units c (map items_n
 units_join c [] fs = refl
 units_join c (e ∷ es) fs = units_join (with_items c (of_unit c.next_unit (items_now e))) es fs
 
-fates_lists : (draft : Draft) (f : Forest) (a : Reading) (fates : List Fate) → FatesAre draft a (trees f) fates → FatesAre draft a (branches f) fates
-fates_lists draft none a fates h = h
-fates_lists draft (atom s q c others) a fates (next, more, says, rest, are) =
+dispositions_lists : (draft : Draft) (f : Forest) (a : Reading) (dispositions : List Disposition) → DispositionsAre draft a (trees f) dispositions → DispositionsAre draft a (branches f) dispositions
+dispositions_lists draft none a dispositions h = h
+dispositions_lists draft (atom s q c others) a dispositions (next, more, says, rest, are) =
     let k : Ok next ≡ with_other a (leaf s q c) = subst (λ (o : Option Sort). SaysPartBy a (leaf s q c) o (Ok next)) (atom_sort s q c) says in
     let same : next ≡ a = (let e : (let r : Result Reading BoardError = Ok next in r) ≡ Ok a = k ∙ atom_other a s q c in cc) in
-    fates_lists draft others a fates (subst (λ (l : List Fate). FatesAre draft a (trees others) l) (sym are) (subst (λ (r : Reading). FatesAre draft r (trees others) more) same rest))
-fates_lists draft (list s inside others) a fates (next, more, says, rest, are) = (next, more, says, fates_lists draft others next more rest, are)
+    dispositions_lists draft others a dispositions (subst (λ (l : List Disposition). DispositionsAre draft a (trees others) l) (sym are) (subst (λ (r : Reading). DispositionsAre draft r (trees others) more) same rest))
+dispositions_lists draft (list s inside others) a dispositions (next, more, says, rest, are) = (next, more, says, dispositions_lists draft others next more rest, are)
 
 both_items : (c one last : PlainBoard) (units others : List (List Item)) (texts news : List Entry) → with_units c units ≡ with_units c (map items_now texts) → SameItems (with_units c units) one
     → with_units one others ≡ with_units one (map items_now news) → last.items ≡ (with_units one others).items → last.items ≡ (with_units c (map items_now (texts ++ news))).items
@@ -138,15 +138,15 @@ then_fits units news one h few =
 -- ---- all together
 
 module _ (Carries : Sort → Tree → Tree → List Item → List Item → Type 0)
-    (carried : (sort : Sort) (board other : PlainBoard) (unit : ℕ) (t u : Tree) (items now : List Item) → SameGround board other → SaysItems board unit t sort (Ok items) → Carries sort t u items now
-    → has_room other other.next_unit now ≡ true → SaysItems other other.next_unit u sort (Ok (of_unit other.next_unit now)))
+    (carried : (sort : Sort) (board other : PlainBoard) (unit : ℕ) (t u : Tree) (items now : List Item) → SameLayersAndNets board other → SaysItems board unit t sort (Ok items) → Carries sort t u items now
+    → has_capacity other other.next_unit now ≡ true → SaysItems other other.next_unit u sort (Ok (of_unit other.next_unit now)))
     (as_long : (sort : Sort) (t u : Tree) (items now : List Item) → Carries sort t u items now → length now ≡ length items)
-    (plain : (t u : Tree) → AlikeTrees None t u → sort_of t ≡ sort_of u)
-    (others_read : (t u : Tree) (a b next : Reading) → AlikeTrees None t u → SameGround a.board b.board → b.layered ≡ a.layered → with_other a t ≡ Ok next
-    → (new : Reading) × (with_other b u ≡ Ok new) × SameGround next.board new.board × (new.layered ≡ next.layered) × SameItems b.board new.board)
+    (plain : (t u : Tree) → TranslatedTrees None t u → sort_of t ≡ sort_of u)
+    (others_read : (t u : Tree) (a b next : Reading) → TranslatedTrees None t u → SameLayersAndNets a.board b.board → b.layered ≡ a.layered → with_other a t ≡ Ok next
+    → (new : Reading) × (with_other b u ≡ Ok new) × SameLayersAndNets next.board new.board × (new.layered ≡ next.layered) × SameItems b.board new.board)
     (carries : (sort : Sort) (s r : Span) (i j : Forest) (o : Option Shift) (e : Entry) → sort_of (branch s i) ≡ Some sort → SameTrees (moved_if o i) j → AreNow (shift_of o) e
     → Carries sort (branch s i) (branch r j) e.read (items_now e))
-    (without : (sort : Sort) (s r : Span) (i j : Forest) → sort_of (branch s i) ≡ Some sort → Alike None i j → Carries sort (branch s i) (branch r j) [] [])
+    (without : (sort : Sort) (s r : Span) (i j : Forest) → sort_of (branch s i) ≡ Some sort → Translated None i j → Carries sort (branch s i) (branch r j) [] [])
     (same_sort : (s r : Span) (i j : Forest) (o : Option Shift) → SameTrees (moved_if o i) j → sort_of (branch r j) ≡ sort_of (branch s i))
     (grows : (a next : Reading) (t : Tree) (i : Item) (items : List Item) → IsUnit a next t (i ∷ items) → next.board.next_unit ≡ suc a.board.next_unit)
     (ready : (board : PlainBoard) (t : Tree) (sort : Sort) (items : List Item) → SaysItems board board.next_unit t sort (Ok items) → ItemsOf board.next_unit items)
@@ -162,7 +162,7 @@ module _ (Carries : Sort → Tree → Tree → List Item → List Item → Type 
   pub record ReadAgain (z : Reading) (ts : List Tree) (last : PlainBoard) : Type 0 where
     pub reading : Reading
     pub says : SaysParts unread ts (Ok reading)
-    pub ground : SameGround z.board reading.board
+    pub ground : SameLayersAndNets z.board reading.board
     pub layered : reading.layered ≡ z.layered
     pub items : AllZip IsSameItem reading.board.items last.items
     pub units : (i j : ℕ) (p q r s : ℕ × Item) → slice_get reading.board.items i ≡ Some p → slice_get reading.board.items j ≡ Some q → slice_get last.items i ≡ Some r → slice_get last.items j ≡ Some s → Share p q r s
@@ -190,10 +190,10 @@ module _ (Carries : Sort → Tree → Tree → List Item → List Item → Type 
     pub are : with_units unread.board units ≡ with_units unread.board (map items_now texts)
     pub kept : AreKept draft z.board.next_unit news
 
-  text_part : (others : Forest) (z : Reading) (draft : Draft) (fates : List Fate) (us : List Tree) (first texts news : List Entry) → TextReads unread (branches others) z first → FatesAre draft unread (branches others) fates → SameReads first texts
-      → AreKept draft 0 (texts ++ news) → HaveInsides (insides_after fates others) us → TextPart z draft (branches others) us texts news
-  text_part others z draft fates us first texts news reads are of_text kept inside =
-      let text = follows Carries carries without same_sort grows one_next draft others unread z fates first (texts ++ news) us reads are (reads_front first texts news (reads_same first texts of_text)) kept inside in
+  text_part : (others : Forest) (z : Reading) (draft : Draft) (dispositions : List Disposition) (us : List Tree) (first texts news : List Entry) → TextReads unread (branches others) z first → DispositionsAre draft unread (branches others) dispositions → SameReads first texts
+      → AreKept draft 0 (texts ++ news) → HaveInsides (insides_after dispositions others) us → TextPart z draft (branches others) us texts news
+  text_part others z draft dispositions us first texts news reads are of_text kept inside =
+      let text = follows Carries carries without same_sort grows one_next draft others unread z dispositions first (texts ++ news) us reads are (reads_front first texts news (reads_same first texts of_text)) kept inside in
       let long : length texts ≡ length text.used = length_reads first texts of_text ∙ sym text.count in
       let same = append_same texts news text.used text.left text.split long in
       record {
@@ -221,15 +221,15 @@ module _ (Carries : Sort → Tree → Tree → List Item → List Item → Type 
         units = share_units ours;
       }
 
-  pub read_again : (q : Bool) (c : List ℕ) (h : Span) (others : Forest) (z : Reading) (changes : List Change) (last : PlainBoard) (fates : List Fate) (out : List ℕ) (draft : Draft)
+  pub read_again : (q : Bool) (c : List ℕ) (h : Span) (others : Forest) (z : Reading) (changes : List Change) (last : PlainBoard) (dispositions : List Disposition) (out : List ℕ) (draft : Draft)
       → draft ≡ with_changes (untouched z.board.next_unit) changes
-      → SaysParts unread (trees (atom h q c others)) (Ok z) → ChangeAll z.board changes last → FatesAre draft unread (trees (atom h q c others)) fates → length last.items ≤ 200000
-      → (w : SpellsEdited out q c (insides_after fates others ++ insides (added_trees draft draft.added))) → ReadAgain z (trees w.forest) last
-  read_again q c h others z changes last fates out draft is says done are few w =
+      → SaysParts unread (trees (atom h q c others)) (Ok z) → ChangeAll z.board changes last → DispositionsAre draft unread (trees (atom h q c others)) dispositions → length last.items ≤ 200000
+      → (w : SpellsEdited out q c (insides_after dispositions others ++ insides (added_trees draft draft.added))) → ReadAgain z (trees w.forest) last
+  read_again q c h others z changes last dispositions out draft is says done are few w =
       let s : Staged z draft (branches others) last = subst (λ (d : Draft). Staged z d (branches others) last) (sym is) (staged (branches others) z changes last (lists_only (atom h q c others) unread (Ok z) says) done) in
       let inside = subst (λ (l : List Forest). HaveInsides l (branches w.forest)) w.are (have_insides (atom w.head_is q c w.kept) w.forest w.same) in
-      let split = have_split (insides_after fates others) (insides (added_trees draft draft.added)) (branches w.forest) inside in
-      let t = text_part others z draft fates split.0 s.first s.stage.texts s.stage.news s.reads (fates_lists draft (atom h q c others) unread fates are) s.stage.of_text s.stage.ledger.kept split.3 in
+      let split = have_split (insides_after dispositions others) (insides (added_trees draft draft.added)) (branches w.forest) inside in
+      let t = text_part others z draft dispositions split.0 s.first s.stage.texts s.stage.news s.reads (dispositions_lists draft (atom h q c others) unread dispositions are) s.stage.of_text s.stage.ledger.kept split.3 in
       let r = last_part z draft (branches others) split.0 split.1 s.first s.stage.texts s.stage.news last t s.stage.added s.number s.stage.ledger.kept s.stage.ledger.items few split.4 in
       record {
         reading = r.reading;

@@ -3,7 +3,7 @@ use Rattle.std.proofs.Common.{◌≡◌, ◌∙◌, refl, sym, ap, subst, ℕ, �
 use Rattle.sexpr_read.specs.declared.place.TextError.{TextError}
 use Rattle.sexpr_read.specs.Tree.{Tree, parts, is_list}
 use Rattle.sexpr_read.specs.Spelling.{SpellsAll}
-use Rattle.sexpr_read.specs.Refusals.{refusal_of_all}
+use Rattle.sexpr_read.specs.TreeRefusals.{refusal_of_all}
 use Rattle.sexpr_read.proofs.Unique.{unique_forms}
 use Rattle.board_errors.specs.declared.errors.BoardError.{BoardError}
 use Rattle.board_errors.specs.declared.errors.BoardError.TheVariants.{OutOfBoard, Text as TextRefused}
@@ -11,15 +11,15 @@ use Rattle.board_items.specs.declared.found.Found.{Found}
 use Rattle.board_items.specs.declared.found.Found.TheVariants.{None as NoUnit, Shared, Inside, Unit as OneUnit}
 use Rattle.board_items.specs.declared.item.Item.{Item}
 use Rattle.board_items.specs.Boards.{PlainBoard}
-use Rattle.board_items.specs.Moves.{unit_stays}
+use Rattle.board_items.specs.ItemMoves.{unit_stays}
 use Rattle.board_items.specs.Units.{found_of}
 use Rattle.edit_script.specs.Commands.{PlainCommand, add, delete, move, rules, again}
-use Rattle.list_read.specs.Texts.{Behind}
+use Rattle.list_read.specs.TextResults.{IsBehindText}
 use Rattle.pcb_read.specs.ItemText.{answer_further, alone, SaysList, SaysAlone, SaysForms, SaysText}
 use Rattle.board_edits.specs.declared.refusal.Refusal.{Refusal}
 use Rattle.board_edits.specs.declared.refusal.Refusal.TheVariants.{Item as ItemRefused}
-use Rattle.board_edits.specs.Deeds.{PlainDeed, nothing, append, put_back, take_out, shift, After, appended, to_unit, shifted, Does, IsLeft, DoAll}
-use Rattle.roundtrip_boards.specs.Changes.{Change, IsListIn, IsListOf, IsChangeBy, IsChange, AreChanges, IsNamed, IsAddedTo, Changes, ChangeAll}
+use Rattle.board_edits.specs.Operations.{PlainOperation, nothing, append, put_back, take_out, shift, After, appended, to_unit, shifted, Does, IsLeft, DoAll}
+use Rattle.roundtrip_boards.specs.TextChanges.{Change, IsListIn, IsListOf, IsChangeBy, IsChange, AreChanges, IsNamed, IsAddedTo, Changes, ChangeAll}
 
 -- ---- an added list gives its items
 
@@ -27,7 +27,7 @@ said_alone : (board : PlainBoard) (unit : ℕ) (list : Tree) (items : List Item)
 said_alone board unit list items e true says = says
 said_alone board unit list items e false says = absurd cc
 
-said_after : (board : PlainBoard) (unit : ℕ) (text : List ℕ) (list : Tree) (items : List Item) (o : Option TextError) → IsListIn text list → Behind TextRefused (SpellsAll text) (SaysForms board unit) o (Ok items) → SaysList board unit list (Ok items)
+said_after : (board : PlainBoard) (unit : ℕ) (text : List ℕ) (list : Tree) (items : List Item) (o : Option TextError) → IsListIn text list → IsBehindText TextRefused (SpellsAll text) (SaysForms board unit) o (Ok items) → SaysList board unit list (Ok items)
 said_after board unit text list items (Some e) is says = absurd cc
 said_after board unit text list items None (forms, spelled, single) (others, read, says) =
     let same : others ≡ forms = unique_forms text others forms read spelled in
@@ -42,7 +42,7 @@ said_by board unit at text list items (Ok its) answer is says same k =
     let equal : its ≡ items = cc in
     said_after board unit text list items (refusal_of_all text) is (subst (λ (l : List Item). SaysText board unit text (Ok l)) equal says)
 
--- ---- a name stands for the unit of a deed
+-- ---- a name stands for the unit of an operation
 
 taken_named : (found : Found) (unit : ℕ) → Ok (take_out unit) ≡ to_unit found (λ u. Ok (take_out u)) → found ≡ OneUnit unit
 taken_named NoUnit unit e = absurd cc
@@ -116,20 +116,20 @@ module _ (board : PlainBoard) where
   adds (rules text at) list items e is = absurd is
   adds (again at) list items e is = absurd is
 
-  by_deed : (command : PlainCommand) (deed : PlainDeed) (change : Change) (new : PlainBoard) → Does board command (Ok deed) → After board deed new → IsChangeBy command deed change → Changes board change new
-  by_deed command nothing change new does after is = subst (λ (c : Change). Changes board c new) (sym is) after
-  by_deed command (append items) change new does after (list, of, is) = subst (λ (c : Change). Changes board c new) (sym is) (adds command list items does of, after)
-  by_deed command (put_back items) change new does after is = absurd is
-  by_deed command (take_out unit) change new does after is = subst (λ (c : Change). Changes board c new) (sym is) (takes command unit does, after)
-  by_deed command (shift unit dx dy) change new does after is =
+  by_operation : (command : PlainCommand) (operation : PlainOperation) (change : Change) (new : PlainBoard) → Does board command (Ok operation) → After board operation new → IsChangeBy command operation change → Changes board change new
+  by_operation command nothing change new does after is = subst (λ (c : Change). Changes board c new) (sym is) after
+  by_operation command (append items) change new does after (list, of, is) = subst (λ (c : Change). Changes board c new) (sym is) (adds command list items does of, after)
+  by_operation command (put_back items) change new does after is = absurd is
+  by_operation command (take_out unit) change new does after is = subst (λ (c : Change). Changes board c new) (sym is) (takes command unit does, after)
+  by_operation command (shift unit dx dy) change new does after is =
       let k = moves command unit dx dy does in
       subst (λ (c : Change). Changes board c new) (sym is) (k.0, k.1, after)
 
-  pub one_change : (command : PlainCommand) (answer : Result PlainDeed Refusal) (change : Change) (new : PlainBoard) → Does board command answer → IsLeft board answer new → IsChange command answer change → Changes board change new
-  one_change command (Ok deed) change new does after is = by_deed command deed change new does after is
+  pub one_change : (command : PlainCommand) (answer : Result PlainOperation Refusal) (change : Change) (new : PlainBoard) → Does board command answer → IsLeft board answer new → IsChange command answer change → Changes board change new
+  one_change command (Ok operation) change new does after is = by_operation command operation change new does after is
   one_change command (Err why) change new does after is = subst (λ (c : Change). Changes board c new) (sym is) after
 
-pub all_change : (commands : List PlainCommand) (answers : List (Result PlainDeed Refusal)) (changes : List Change) (board last : PlainBoard) → DoAll board commands answers last → AreChanges commands answers changes → ChangeAll board changes last
+pub all_change : (commands : List PlainCommand) (answers : List (Result PlainOperation Refusal)) (changes : List Change) (board last : PlainBoard) → DoAll board commands answers last → AreChanges commands answers changes → ChangeAll board changes last
 all_change [] [] changes board last same is = subst (λ (l : List Change). ChangeAll board l last) (sym is) same
 all_change [] (answer ∷ answers) changes board last done is = absurd done
 all_change (command ∷ commands) [] changes board last done is = absurd done

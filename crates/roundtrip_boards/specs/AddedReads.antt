@@ -4,14 +4,14 @@ use Rattle.sexpr_read.specs.Tree.{Tree}
 use Rattle.board_items.specs.declared.item.Item.{Item}
 use Rattle.board_items.specs.Boards.{PlainBoard}
 use Rattle.pcb_read.specs.ItemText.{SaysList}
-use Rattle.roundtrip_boards.specs.Roots.{SameGround}
-use Rattle.roundtrip_boards.specs.Written.{Added}
+use Rattle.roundtrip_boards.specs.Roots.{SameLayersAndNets}
+use Rattle.roundtrip_boards.specs.WrittenBoard.{Added}
 use Rattle.roundtrip_boards.specs.Ledger.{Entry}
 
 -- the board on which a list was read had the same layers and nets
 pub record WasRead (ground : PlainBoard) (tree : Tree) (items : List Item) : Type 0 where
   pub board : PlainBoard
-  pub same : SameGround ground board
+  pub same : SameLayersAndNets ground board
   pub says : SaysList board board.next_unit tree (Ok items)
 
 -- the entries of the units that were added, from this number on

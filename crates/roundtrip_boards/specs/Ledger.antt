@@ -3,9 +3,9 @@ use Rattle.std.specs.Prelude.{◌≡◌, ℕ, suc, ◌≤◌, false, List, [], �
 use Rattle.std.specs.List.{AllZip}
 use Rattle.board_items.specs.declared.item.Item.{Item}
 use Rattle.board_items.specs.Boards.{PlainBoard}
-use Rattle.roundtrip_lists.specs.Alike.{Shift}
+use Rattle.roundtrip_lists.specs.Translated.{Shift}
 use Rattle.roundtrip_lists.specs.Carried.{shift_of, Becomes}
-use Rattle.roundtrip_boards.specs.Written.{Draft, is_gone, shift_of_unit}
+use Rattle.roundtrip_boards.specs.WrittenBoard.{Draft, is_gone, shift_of_unit}
 
 -- a unit: its items as they were read, and as they now are, with their ids; entry k of a ledger is that of unit k
 pub record Entry : Type 0 where

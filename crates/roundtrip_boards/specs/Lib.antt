@@ -1,7 +1,7 @@
 pub mod Roots
-pub mod Changes
-pub mod Written
-pub mod Same
+pub mod TextChanges
+pub mod WrittenBoard
+pub mod SameBoards
 pub mod Ledger
 pub mod Reads
 pub mod AddedReads

@@ -3,7 +3,7 @@ use Rattle.std.specs.Prelude.{◌≡◌, ℕ, ◌+◌, List, [], ◌∷◌, leng
 use Rattle.sexpr_read.specs.Tree.{Tree}
 use Rattle.board_items.specs.declared.item.Item.{Item}
 use Rattle.board_items.specs.Boards.{PlainBoard}
-use Rattle.roundtrip_lists.specs.Alike.{AlikeTrees}
+use Rattle.roundtrip_lists.specs.Translated.{TranslatedTrees}
 use Rattle.roundtrip_lists.specs.Carried.{of_unit}
 use Rattle.pcb_read.specs.declared.sorts.Sort.{Sort}
 use Rattle.pcb_read.specs.Sorts.{sort_of}
@@ -11,7 +11,7 @@ use Rattle.pcb_read.specs.ItemsOf.{SaysItems}
 use Rattle.pcb_read.specs.BoardOf.{Reading, with_items, SaysPart}
 
 -- both have the same copper layers and the same nets
-pub record SameGround (a b : PlainBoard) : Type 0 where
+pub record SameLayersAndNets (a b : PlainBoard) : Type 0 where
   pub copper : b.copper ≡ a.copper
   pub nets : b.nets ≡ a.nets
 
@@ -30,14 +30,14 @@ abbrev pub total : List (List Item) → ℕ
 total [] = 0
 total (items ∷ others) = length items + total others
 
--- what is known of the items of lists of a board that is alike: `Carries sort t u items cs` says that the list t of this sort gives the
--- items, and the list u those that they have become
+-- what is known of the items of lists of a board that is equal up to translation: `Carries sort t u items cs` says that the list t of this
+-- sort gives the items, and the list u those that they have become
 module _ (Carries : Sort → Tree → Tree → List Item → List Item → Type 0) where
   -- the parts of the one board, from what was read before to what is read then, and the parts of the other, with the items of its units
   pub data Goes : Reading → List Tree → Reading → List Tree → List (List Item) → Type 0 where
     ends : {a : Reading} → Goes a [] a [] []
     -- a part that gives no unit stays
-    stays : {a next z : Reading} {t u : Tree} {ts us : List Tree} {units : List (List Item)} → sort_of t ≡ None → AlikeTrees None t u → SaysPart a t (Ok next)
+    stays : {a next z : Reading} {t u : Tree} {ts us : List Tree} {units : List (List Item)} → sort_of t ≡ None → TranslatedTrees None t u → SaysPart a t (Ok next)
         → Goes next ts z us units → Goes a (t ∷ ts) z (u ∷ us) units
     -- a unit is left out
     leaves : {a next z : Reading} {t : Tree} {ts us : List Tree} {units : List (List Item)} (sort : Sort) → sort_of t ≡ Some sort → SaysPart a t (Ok next)

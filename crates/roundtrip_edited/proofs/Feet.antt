@@ -1,4 +1,4 @@
--- Lists of footprints, as they are written anew.
+-- Lists of footprints, as they are rewritten.
 use Rattle.std.proofs.Common.{◌≡◌, ◌∙◌, refl, sym, ap, subst, ℕ, ◌<◌, ◌≤◌, arith, Bool, true, false, cond, leb, ltb, List, [], ◌∷◌, length, codes, Option, None, Some, Ok, inl, inr}
 use Rattle.std.specs.List.{AllZip}
 use Rattle.std.proofs.lemmas.Bool.{leb-true, ltb-true, and_parts}
@@ -6,32 +6,32 @@ use Rattle.sexpr_read.specs.declared.place.Span.{Span}
 use Rattle.sexpr_read.specs.Tree.{Forest, none, atom, list, Tree, leaf, branch, trees}
 use Rattle.board_items.specs.declared.item.Item.{Item}
 use Rattle.board_items.specs.Boards.{PlainBoard}
-use Rattle.board_items.specs.Refusals.{room_of}
+use Rattle.board_items.specs.ItemRefusals.{capacity_of}
 use Rattle.board_items.specs.declared.item.About.TheVariants.{Text as OfText, Dimension as OfDimension}
 use Rattle.part_read.specs.declared.drawings.GraphicKind.TheVariants.{Line, Rect, Circle, Outline}
-use Rattle.list_read.specs.Heads.{is_text, first_is}
+use Rattle.list_read.specs.ListHeads.{is_text, first_is}
 use Rattle.roundtrip_text.specs.Pieces.{SameTrees}
 use Rattle.footprint_read.specs.FootprintOf.{FootprintSays}
-use Rattle.roundtrip_lists.specs.Alike.{Shift, place_moved, Alike}
+use Rattle.roundtrip_lists.specs.Translated.{Shift, place_moved, Translated}
 use Rattle.roundtrip_lists.specs.Carried.{shift_of, Becomes, of_unit, ItemsOf}
 use Rattle.roundtrip_lists.specs.Moving.{put_if, moved}
-use Rattle.roundtrip_lists.proofs.Moving.{alike_same, alike_itself}
+use Rattle.roundtrip_lists.proofs.Moving.{translated_same, translated_itself}
 use Rattle.pcb_read.specs.declared.sorts.Sort.{Sort}
 use Rattle.pcb_read.specs.declared.sorts.Sort.TheVariants.{Track, Via, Arc, Graphic, Curve, Text, Zone, Footprint}
 use Rattle.pcb_read.specs.Sorts.{is_curve, is_writing, drawn_sort, sort_of}
-use Rattle.pcb_read.specs.ItemsOf.{SaysItems, has_room}
+use Rattle.pcb_read.specs.ItemsOf.{SaysItems, has_capacity}
 use Rattle.roundtrip_edited.specs.Footprints.{is_footprint}
 use Rattle.roundtrip_edited.proofs.Units.{same_nets}
-use Rattle.roundtrip_footprints.specs.Places.{AtMoved}
+use Rattle.roundtrip_footprints.specs.FootprintPlaces.{AtMoved}
 use Rattle.roundtrip_footprints.proofs.Carried.{foot_carried}
 use Rattle.roundtrip_footprints.proofs.Feet.{foot_some, foot_stands}
 use Rattle.roundtrip_footprints.proofs.Written.{written_place, all_kept}
-use Rattle.roundtrip_boards.specs.Roots.{SameGround}
-use Rattle.roundtrip_boards.specs.Written.{first_at, moved_if}
+use Rattle.roundtrip_boards.specs.Roots.{SameLayersAndNets}
+use Rattle.roundtrip_boards.specs.WrittenBoard.{first_at, moved_if}
 use Rattle.roundtrip_edited.specs.Carries.{Carries}
 
-plain_of : (f g : Forest) → SameTrees f g → Alike None f g
-plain_of f g same = alike_same None f f g (alike_itself f) same
+plain_of : (f g : Forest) → SameTrees f g → Translated None f g
+plain_of f g same = translated_same None f f g (translated_itself f) same
 
 -- ---- the first place is moved
 
@@ -94,18 +94,18 @@ unit_moved (Some by) i j foot same = at_moved by i j (subst (λ (b : Bool). Same
 -- ---- what they give
 
 -- a footprint gives items, so there is room for some
-some_room : (other : PlainBoard) (own : ℕ) (items now : List Item) (d : Shift) → AllZip (Becomes d) items now → 1 ≤ length items → has_room other own now ≡ true → (length now ≤ room_of other) × (own < 4294967295)
-some_room other own [] now d become some room = absurd (omega (arith, some))
-some_room other own (i ∷ items) [] d become some room = absurd become
-some_room other own (i ∷ items) (n ∷ now) d become some room =
-    let k = and_parts (leb (length (n ∷ now)) (room_of other)) (ltb own 4294967295) room in
-    (leb-true (length (n ∷ now)) (room_of other) k.0, ltb-true own 4294967295 k.1)
+some_capacity : (other : PlainBoard) (own : ℕ) (items now : List Item) (d : Shift) → AllZip (Becomes d) items now → 1 ≤ length items → has_capacity other own now ≡ true → (length now ≤ capacity_of other) × (own < 4294967295)
+some_capacity other own [] now d become some capacity = absurd (omega (arith, some))
+some_capacity other own (i ∷ items) [] d become some capacity = absurd become
+some_capacity other own (i ∷ items) (n ∷ now) d become some capacity =
+    let k = and_parts (leb (length (n ∷ now)) (capacity_of other)) (ltb own 4294967295) capacity in
+    (leb-true (length (n ∷ now)) (capacity_of other) k.0, ltb-true own 4294967295 k.1)
 
-pub feet_carried : (board other : PlainBoard) (unit own : ℕ) (t u : Tree) (items now : List Item) → SameGround board other → SaysItems board unit t Footprint (Ok items) → Carries Footprint t u items now → has_room other own now ≡ true
+pub feet_carried : (board other : PlainBoard) (unit own : ℕ) (t u : Tree) (items now : List Item) → SameLayersAndNets board other → SaysItems board unit t Footprint (Ok items) → Carries Footprint t u items now → has_capacity other own now ≡ true
     → SaysItems other own u Footprint (Ok (of_unit own now))
-feet_carried board other unit own t u items now ground says c room =
+feet_carried board other unit own t u items now ground says c capacity =
     let said : FootprintSays board unit (branch c.old c.inside) (Ok items) = subst (λ (z : Tree). FootprintSays board unit z (Ok items)) c.was says in
-    let fits = some_room other own items now (shift_of c.shift) c.become (foot_some board unit (branch c.old c.inside) items said) room in
+    let fits = some_capacity other own items now (shift_of c.shift) c.become (foot_some board unit (branch c.old c.inside) items said) capacity in
     subst (λ (z : Tree). FootprintSays other own z (Ok (of_unit own now))) (sym c.is)
     (foot_carried (shift_of c.shift) board other ground.copper (same_nets board other ground) unit own c.inside c.within c.old c.new (unit_moved c.shift c.inside c.within (foot_head c.old c.inside c.is_sort) c.same) items now c.become said fits.0 fits.1)
 

@@ -5,16 +5,16 @@ use Rattle.sexpr_read.specs.declared.place.Span.{Span}
 use Rattle.sexpr_read.specs.Tree.{Forest, none, atom, list, Tree, leaf, branch, trees, is_list}
 use Rattle.board_errors.specs.declared.errors.BoardError.{BoardError}
 use Rattle.board_errors.specs.declared.errors.BoardError.TheVariants.{NotABoard, Version, Missing}
-use Rattle.list_read.specs.Answers.{◌>>=◌, needed, check}
-use Rattle.list_read.specs.Heads.{place, is_value, is_text, has_head}
-use Rattle.part_read.specs.Elements.{atom_of}
+use Rattle.list_read.specs.FirstRefusals.{◌>>=◌, needed, check}
+use Rattle.list_read.specs.ListHeads.{place, is_value, is_text, has_head}
+use Rattle.part_read.specs.ElementResults.{atom_of}
 use Rattle.roundtrip_text.specs.Pieces.{SameTrees}
-use Rattle.roundtrip_text.specs.Anew.{insides}
+use Rattle.roundtrip_text.specs.RewrittenText.{insides}
 use Rattle.pcb_read.specs.BoardOf.{is_version, version_in, header_in}
-use Rattle.roundtrip_lists.specs.Alike.{Alike}
+use Rattle.roundtrip_lists.specs.Translated.{Translated}
 use Rattle.roundtrip_lists.specs.Agreeing.{Agrees, SameAtom}
-use Rattle.roundtrip_lists.proofs.Elements.{agrees_bind, agrees_both, heads_alike, same_value, atom_alike}
-use Rattle.roundtrip_lists.proofs.Moving.{alike_itself, alike_same}
+use Rattle.roundtrip_lists.proofs.Elements.{agrees_bind, agrees_both, heads_translated, same_value, atom_translated}
+use Rattle.roundtrip_lists.proofs.Moving.{translated_itself, translated_same}
 
 abbrev Any : Unit {0} → Unit {0} → Type 0
 Any x y = ⊤
@@ -32,11 +32,11 @@ version_at e tree = check e (has_head (codes "version") tree) >>= λ named. (ato
 version_same : (t u : Tree) → SameAtom t u → is_version u ≡ is_version t
 version_same t u h = ap (λ (v : Option (List ℕ)). is_value v (codes "20221018") || is_value v (codes "20240108")) (sym (same_value t u h))
 
-version_alike : (d e : BoardError) (s r : Span) (i j : Forest) → Alike None i j → Agrees Any (version_at d (branch s i)) (version_at e (branch r j))
-version_alike d e s r i j h =
+version_translated : (d e : BoardError) (s r : Span) (i j : Forest) → Translated None i j → Agrees Any (version_at d (branch s i)) (version_at e (branch r j))
+version_translated d e s r i j h =
     agrees_bind Any Any (check d (has_head (codes "version") (branch s i))) (check e (has_head (codes "version") (branch r j))) _ _
-    (agrees_test (has_head (codes "version") (branch s i)) (has_head (codes "version") (branch r j)) d e (sym (heads_alike None (branch s i) (branch r j) (codes "version") h)))
-    (λ x y k. agrees_bind SameAtom Any (atom_of 1 (branch s i)) (atom_of 1 (branch r j)) _ _ (agrees_both SameAtom (atom_of 1 (branch s i)) (atom_of 1 (branch r j)) (atom_alike None 1 (branch s i) (branch r j) h))
+    (agrees_test (has_head (codes "version") (branch s i)) (has_head (codes "version") (branch r j)) d e (sym (heads_translated None (branch s i) (branch r j) (codes "version") h)))
+    (λ x y k. agrees_bind SameAtom Any (atom_of 1 (branch s i)) (atom_of 1 (branch r j)) _ _ (agrees_both SameAtom (atom_of 1 (branch s i)) (atom_of 1 (branch r j)) (atom_translated None 1 (branch s i) (branch r j) h))
     (λ a b m. agrees_test (is_version a) (is_version b) (Version (place a)) (Version (place b)) (version_same a b m)))
 
 -- ---- the first list
@@ -92,10 +92,10 @@ header_again s p h t r q c f kept forest i others u ok first same lists =
     let now = list_same (atom h q c kept) forest same there.0 i there.1 in
     let version : version_at (Missing (place (branch s (atom t q c f)))) (branch r i) ≡ Ok u =
     subst (λ (o : Option Tree). (needed (Missing (place (branch s (atom t q c f)))) o >>= version_at (Missing (place (branch s (atom t q c f))))) ≡ Ok u) first was.1 in
-    let alike : Alike None i now.1 = alike_same None i i now.1 (alike_itself i) now.3 in
+    let translated : Translated None i now.1 = translated_same None i i now.1 (translated_itself i) now.3 in
     let again : version_at (Missing (place (branch p forest))) (branch now.0 now.1) ≡ Ok tt =
     by_agrees (version_at (Missing (place (branch s (atom t q c f)))) (branch r i)) (version_at (Missing (place (branch p forest))) (branch now.0 now.1)) version
-    (version_alike (Missing (place (branch s (atom t q c f)))) (Missing (place (branch p forest))) r now.0 i now.1 alike) in
+    (version_translated (Missing (place (branch s (atom t q c f)))) (Missing (place (branch p forest))) r now.0 i now.1 translated) in
     ap (λ (b : Bool). check (NotABoard (place (branch p forest))) b >>= λ x. (needed (Missing (place (branch p forest))) (first_list forest) >>= version_at (Missing (place (branch p forest))))) named
     ∙ ap (λ (o : Option Tree). needed (Missing (place (branch p forest))) o >>= version_at (Missing (place (branch p forest)))) now.2
     ∙ again

@@ -8,12 +8,12 @@ use Rattle.board_items.specs.declared.item.Item.{Item}
 use Rattle.edit_script.specs.Commands.{PlainCommand, add, delete, move, rules, again}
 use Rattle.edit_script.specs.Fits.{IsShallow, IsShallowIfAdded, AreShallow}
 use Rattle.board_edits.specs.declared.refusal.Refusal.{Refusal}
-use Rattle.board_edits.specs.Deeds.{PlainDeed, nothing, append, put_back, take_out, shift}
-use Rattle.roundtrip_text.specs.Anew.{AreAtoms}
+use Rattle.board_edits.specs.Operations.{PlainOperation, nothing, append, put_back, take_out, shift}
+use Rattle.roundtrip_text.specs.RewrittenText.{AreAtoms}
 use Rattle.roundtrip_text.proofs.Whole.{respelled_levels}
-use Rattle.roundtrip_lists.specs.Alike.{Shift}
-use Rattle.roundtrip_boards.specs.Changes.{Change, unchanged, takes_out, shifts, appends, IsListIn, IsListOf, IsChangeBy, IsChange, AreChanges}
-use Rattle.roundtrip_boards.specs.Written.{Draft, Added, is_gone, shift_of_unit, moved_unit, moved_if, with_list, with_change, with_changes, inside_of, span_of, added_one, added_trees}
+use Rattle.roundtrip_lists.specs.Translated.{Shift}
+use Rattle.roundtrip_boards.specs.TextChanges.{Change, unchanged, takes_out, shifts, appends, IsListIn, IsListOf, IsChangeBy, IsChange, AreChanges}
+use Rattle.roundtrip_boards.specs.WrittenBoard.{Draft, Added, is_gone, shift_of_unit, moved_unit, moved_if, with_list, with_change, with_changes, inside_of, span_of, added_one, added_trees}
 use Rattle.roundtrip_boards.proofs.Fitting.{unit_fits}
 
 -- ---- each list that is added
@@ -58,18 +58,18 @@ by_command (move name dx dy at) t shallow is = absurd is
 by_command (rules text at) t shallow is = absurd is
 by_command (again at) t shallow is = absurd is
 
-by_deed : (command : PlainCommand) (deed : PlainDeed) (change : Change) → IsShallowIfAdded command → IsChangeBy command deed change → ChangeIsLow change
-by_deed command nothing change shallow is = subst ChangeIsLow (sym is) tt
-by_deed command (append items) change shallow (t, of, is) = subst ChangeIsLow (sym is) (by_command command t shallow of)
-by_deed command (put_back items) change shallow is = absurd is
-by_deed command (take_out unit) change shallow is = subst ChangeIsLow (sym is) tt
-by_deed command (shift unit dx dy) change shallow is = subst ChangeIsLow (sym is) tt
+by_operation : (command : PlainCommand) (operation : PlainOperation) (change : Change) → IsShallowIfAdded command → IsChangeBy command operation change → ChangeIsLow change
+by_operation command nothing change shallow is = subst ChangeIsLow (sym is) tt
+by_operation command (append items) change shallow (t, of, is) = subst ChangeIsLow (sym is) (by_command command t shallow of)
+by_operation command (put_back items) change shallow is = absurd is
+by_operation command (take_out unit) change shallow is = subst ChangeIsLow (sym is) tt
+by_operation command (shift unit dx dy) change shallow is = subst ChangeIsLow (sym is) tt
 
-change_low : (command : PlainCommand) (answer : Result PlainDeed Refusal) (change : Change) → IsShallowIfAdded command → IsChange command answer change → ChangeIsLow change
-change_low command (Ok deed) change shallow is = by_deed command deed change shallow is
+change_low : (command : PlainCommand) (answer : Result PlainOperation Refusal) (change : Change) → IsShallowIfAdded command → IsChange command answer change → ChangeIsLow change
+change_low command (Ok operation) change shallow is = by_operation command operation change shallow is
 change_low command (Err why) change shallow is = subst ChangeIsLow (sym is) tt
 
-pub changes_low : (commands : List PlainCommand) (answers : List (Result PlainDeed Refusal)) (changes : List Change) → AreShallow commands → AreChanges commands answers changes → AreLow changes
+pub changes_low : (commands : List PlainCommand) (answers : List (Result PlainOperation Refusal)) (changes : List Change) → AreShallow commands → AreChanges commands answers changes → AreLow changes
 changes_low [] [] changes shallow is = subst AreLow (sym is) tt
 changes_low [] (answer ∷ answers) changes shallow is = absurd is
 changes_low (command ∷ commands) [] changes shallow is = absurd is

@@ -10,23 +10,23 @@ use Rattle.board_items.specs.declared.item.Item.{Item}
 use Rattle.copper_layers.specs.Layers.{single_layer}
 use Rattle.board_items.specs.Boards.{PlainBoard}
 use Rattle.part_read.specs.declared.on_board.Strip.{Strip}
-use Rattle.part_read.specs.declared.graphics.Ground.{Ground}
-use Rattle.list_read.specs.Answers.{◌>>=◌, needed, check}
-use Rattle.list_read.specs.Heads.{place, has_head, has_word}
-use Rattle.list_read.specs.Elements.{element}
-use Rattle.part_read.specs.Elements.{in_needed, in_given, name_in}
-use Rattle.part_read.specs.Numbers.{spot_of, size_at, size_of}
-use Rattle.part_read.specs.LayersOf.{layer_of, layers_through}
+use Rattle.part_read.specs.declared.graphics.LayerRole.{LayerRole}
+use Rattle.list_read.specs.FirstRefusals.{◌>>=◌, needed, check}
+use Rattle.list_read.specs.ListHeads.{place, has_head, has_word}
+use Rattle.list_read.specs.NamedElements.{element}
+use Rattle.part_read.specs.ElementResults.{in_needed, in_given, name_in}
+use Rattle.part_read.specs.BoardNumbers.{raw_point_of, size_at, size_of}
+use Rattle.part_read.specs.BoardLayers.{layer_of, layers_through}
 use Rattle.part_read.specs.NetsOf.{net_of}
 use Rattle.plain_types.specs.Lengths.{is_length}
 use Rattle.part_read.specs.OnBoard.{fits_board, is_strip}
 use Rattle.part_read.specs.Drawings.{corners_of}
 use Rattle.part_read.specs.Figures.{first_of}
 use Rattle.part_read.specs.PlainItems.{plain_item}
-use Rattle.part_read.specs.Graphics.{ground_of, one_item, graphic_by, curve_by, text_by}
-use Rattle.part_read.specs.Room.{has_room_after}
+use Rattle.part_read.specs.Graphics.{layer_role_of, one_item, graphic_by, curve_by, text_by}
+use Rattle.part_read.specs.Capacity.{has_capacity_after}
 use Rattle.part_read.proofs.Reach.{both_ok}
-use Rattle.zone_read.specs.ZoneOf.{as_it_is, zone_layers, title_of, area_of, bans_in, polygon_of, area_in_room, rule_area, is_thin, fill_layer, fill_on, fill_in_room, with_fill, fills_after, zone_by, zone_of}
+use Rattle.zone_read.specs.ZoneOf.{as_it_is, zone_layers, title_of, area_of, bans_in, polygon_of, area_in_capacity, rule_area, is_thin, fill_layer, fill_on, fill_in_capacity, with_fill, fills_after, zone_by, zone_of}
 use Rattle.zone_read.proofs.Admitting.{area_near}
 use Rattle.roundtrip_lists.specs.Carried.{ItemsOf}
 use Rattle.roundtrip_lists.proofs.Placed.{needed_ok, same_ok, made_of, one_of, none_of, corners_started, one_item_of, graphic_of, text_of_unit, curve_of_unit}
@@ -37,7 +37,7 @@ use Rattle.pcb_read.specs.declared.sorts.Sort.TheVariants.{Track, Via, Arc, Grap
 use Rattle.pcb_read.specs.Tracks.{track_along, track_of, disc, is_hole, is_via, via_at, via_of}
 use Rattle.pcb_read.specs.ItemsOf.{SaysItems, on_ground}
 use Rattle.roundtrip_edited.specs.Footprints.{is_footprint}
-use Rattle.roundtrip_edited.proofs.Units.{found_in_room}
+use Rattle.roundtrip_edited.proofs.Units.{found_in_capacity}
 
 -- ---- tracks and vias
 
@@ -49,8 +49,8 @@ along_stands strip origin item h =
 track_stands : (board : PlainBoard) (unit : ℕ) (tree : Tree) (item : Item) → track_of board unit tree ≡ Ok item → ItemsOf unit (item ∷ [])
 unfolding track_of
 track_stands board unit tree item h =
-    let a = both_ok (spot_of (codes "start") tree) _ item h in
-    let b = both_ok (spot_of (codes "end") tree) _ item a.1.1 in
+    let a = both_ok (raw_point_of (codes "start") tree) _ item h in
+    let b = both_ok (raw_point_of (codes "end") tree) _ item a.1.1 in
     let c = both_ok (size_of (codes "width") tree) _ item b.1.1 in
     let e = both_ok (layer_of board.copper tree) _ item c.1.1 in
     let f = both_ok (net_of board tree) _ item e.1.1 in
@@ -65,7 +65,7 @@ at_stands form origin item h =
 via_stands : (board : PlainBoard) (unit : ℕ) (tree : Tree) (item : Item) → via_of board unit tree ≡ Ok item → ItemsOf unit (item ∷ [])
 unfolding via_of
 via_stands board unit tree item h =
-    let a = both_ok (spot_of (codes "at") tree) _ item h in
+    let a = both_ok (raw_point_of (codes "at") tree) _ item h in
     let b = both_ok (size_of (codes "size") tree) _ item a.1.1 in
     let c = both_ok (in_given size_at (element (codes "drill") tree)) _ item b.1.1 in
     let e = both_ok (in_needed (layers_through board.copper) tree (element (codes "layers") tree)) _ item c.1.1 in
@@ -76,22 +76,22 @@ via_stands board unit tree item h =
 -- ---- zones
 
 area_stands : (board : PlainBoard) (unit : ℕ) (tree : Tree) (net : ℕ) (layers : LayerSet) (title : List ℕ) (keepout : Tree) (item : Item) → rule_area board unit tree net layers title keepout ≡ Ok item → ItemsOf unit (item ∷ [])
-unfolding rule_area area_in_room polygon_of
+unfolding rule_area area_in_capacity polygon_of
 area_stands board unit tree net layers title keepout item h =
     let a = both_ok (polygon_of tree) _ item h in
     let p = both_ok (needed _ (element (codes "polygon") tree)) corners_of a.0 a.1.0 in
     let b = both_ok (bans_in keepout) _ item a.1.1 in
-    let c = both_ok (area_in_room board unit tree a.0) _ item b.1.1 in
+    let c = both_ok (area_in_capacity board unit tree a.0) _ item b.1.1 in
     let e = both_ok (needed (OutOfBoard (place tree)) (area_of a.0)) _ c.0 c.1.0 in
     let near = area_near a.0 e.0 (corners_started p.0 a.0 p.1.1) (needed_ok (OutOfBoard (place tree)) (area_of a.0) e.0 e.1.0) in
     one_of unit item (plain_item (name_in tree) unit net (first_of a.0) [] (Area title b.0 (record { layers = layers; shape = c.0 })) refl) (item ∷ []) (same_ok c.1.1) refl refl near
 
-fill_stands : (found : ℕ) (board : PlainBoard) (unit net : ℕ) (tree list : Tree) (layer : ℕ) (item : Item) → fill_in_room found board unit net tree list layer ≡ Ok item → ItemsOf unit (item ∷ [])
-unfolding fill_in_room fill_on
+fill_stands : (found : ℕ) (board : PlainBoard) (unit net : ℕ) (tree list : Tree) (layer : ℕ) (item : Item) → fill_in_capacity found board unit net tree list layer ≡ Ok item → ItemsOf unit (item ∷ [])
+unfolding fill_in_capacity fill_on
 fill_stands found board unit net tree list layer item h =
     let a = both_ok (check (ThickFill (place tree)) (is_thin tree)) _ item h in
     let b = both_ok (fill_on unit net tree layer list) _ item a.1.1 in
-    let c = both_ok (check (TooMany (place list)) (has_room_after found board unit)) _ item b.1.1 in
+    let c = both_ok (check (TooMany (place list)) (has_capacity_after found board unit)) _ item b.1.1 in
     let e = both_ok (corners_of list) _ b.0 b.1.0 in
     let f = both_ok (needed (OutOfBoard (place list)) (area_of e.0)) _ b.0 e.1.1 in
     let near = area_near e.0 f.0 (corners_started list e.0 e.1.0) (needed_ok (OutOfBoard (place list)) (area_of e.0) f.0 f.1.0) in
@@ -101,7 +101,7 @@ with_stands : (found : ℕ) (board : PlainBoard) (unit net : ℕ) (tree list : T
     → ((xs : List Item) → passed_over ≡ Ok xs → ItemsOf unit xs) → ((xs : List Item) → more ≡ Ok xs → ItemsOf unit xs) → with_fill found board unit net tree list passed_over more o ≡ Ok items → ItemsOf unit items
 with_stands found board unit net tree list passed_over more None items h k e = h items e
 with_stands found board unit net tree list passed_over more (Some layer) items h k e =
-    let a = both_ok (fill_in_room found board unit net tree list layer) _ items e in
+    let a = both_ok (fill_in_capacity found board unit net tree list layer) _ items e in
     let b = both_ok more _ items a.1.1 in
     let first = fill_stands found board unit net tree list layer a.0 a.1.0 in
     subst (λ (is : List Item). ItemsOf unit is) (same_ok b.1.1) (first.0, first.1, k b.0 b.1.0)
@@ -134,20 +134,20 @@ zone_stands board unit tree items h =
 
 -- ---- lists of each sort but footprints
 
-ground_stands : (board : PlainBoard) (unit : ℕ) (tree : Tree) (given : Ground → Result (List Item) BoardError) (items : List Item) → ((lies : Ground) → given lies ≡ Ok items → ItemsOf unit items) → on_ground board tree given ≡ Ok items → ItemsOf unit items
-ground_stands board unit tree given items law h = let a = both_ok (ground_of board.copper tree) given items h in law a.0 a.1.1
+layer_role_stands : (board : PlainBoard) (unit : ℕ) (tree : Tree) (given : LayerRole → Result (List Item) BoardError) (items : List Item) → ((lies : LayerRole) → given lies ≡ Ok items → ItemsOf unit items) → on_ground board tree given ≡ Ok items → ItemsOf unit items
+layer_role_stands board unit tree given items law h = let a = both_ok (layer_role_of board.copper tree) given items h in law a.0 a.1.1
 
 pub list_stands : (board : PlainBoard) (unit : ℕ) (tree : Tree) (sort : Sort) (items : List Item) → is_footprint sort ≡ false → SaysItems board unit tree sort (Ok items) → ItemsOf unit items
 list_stands board unit tree Track items e h =
-    one_item_of unit (track_of board unit tree) items (λ item k. track_stands board unit tree item k) (found_in_room board unit tree (one_item (track_of board unit tree)) items h)
+    one_item_of unit (track_of board unit tree) items (λ item k. track_stands board unit tree item k) (found_in_capacity board unit tree (one_item (track_of board unit tree)) items h)
 list_stands board unit tree Via items e h =
-    one_item_of unit (via_of board unit tree) items (λ item k. via_stands board unit tree item k) (found_in_room board unit tree (one_item (via_of board unit tree)) items h)
+    one_item_of unit (via_of board unit tree) items (λ item k. via_stands board unit tree item k) (found_in_capacity board unit tree (one_item (via_of board unit tree)) items h)
 list_stands board unit tree Arc items e h = absurd cc
 list_stands board unit tree (Graphic kind) items e h =
-    ground_stands board unit tree (graphic_by board unit as_it_is kind tree) items (λ lies k. graphic_of board unit as_it_is kind tree lies items k)
-    (found_in_room board unit tree (on_ground board tree (graphic_by board unit as_it_is kind tree)) items h)
-list_stands board unit tree Curve items e h = ground_stands board unit tree (curve_by tree) items (λ lies k. curve_of_unit unit tree lies items k) (sym h)
+    layer_role_stands board unit tree (graphic_by board unit as_it_is kind tree) items (λ lies k. graphic_of board unit as_it_is kind tree lies items k)
+    (found_in_capacity board unit tree (on_ground board tree (graphic_by board unit as_it_is kind tree)) items h)
+list_stands board unit tree Curve items e h = layer_role_stands board unit tree (curve_by tree) items (λ lies k. curve_of_unit unit tree lies items k) (sym h)
 list_stands board unit tree (Text about) items e h =
-    ground_stands board unit tree (text_by unit about tree) items (λ lies k. text_of_unit unit about tree lies items k) (found_in_room board unit tree (on_ground board tree (text_by unit about tree)) items h)
+    layer_role_stands board unit tree (text_by unit about tree) items (λ lies k. text_of_unit unit about tree lies items k) (found_in_capacity board unit tree (on_ground board tree (text_by unit about tree)) items h)
 list_stands board unit tree Zone items e h = zone_stands board unit tree items (sym h)
 list_stands board unit tree Footprint items e h = absurd cc

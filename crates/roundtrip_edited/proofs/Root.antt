@@ -4,15 +4,15 @@ use Rattle.std.specs.Prelude.{slice_range}
 use Rattle.sexpr_read.specs.declared.place.Span.{Span}
 use Rattle.sexpr_read.specs.Tree.{Forest, none, atom, list, Tree, leaf, branch, trees, parts, levels_in}
 use Rattle.sexpr_read.specs.Spelling.{Spells}
-use Rattle.sexpr_read.specs.Refusals.{refusal_of_one}
+use Rattle.sexpr_read.specs.TreeRefusals.{refusal_of_one}
 use Rattle.sexpr_read.proofs.Accepted.{accepted, refusal_of_utf8}
 use Rattle.board_errors.specs.declared.errors.BoardError.{BoardError}
 use Rattle.board_errors.specs.declared.errors.BoardError.TheVariants.{NotABoard, Missing}
 use Rattle.board_items.specs.Boards.{PlainBoard}
-use Rattle.list_read.specs.Answers.{◌>>=◌, check}
-use Rattle.list_read.specs.Heads.{place, has_head}
-use Rattle.roundtrip_text.specs.Pieces.{Writes}
-use Rattle.roundtrip_text.specs.Anew.{AreAtoms}
+use Rattle.list_read.specs.FirstRefusals.{◌>>=◌, check}
+use Rattle.list_read.specs.ListHeads.{place, has_head}
+use Rattle.roundtrip_text.specs.Pieces.{WritesForest}
+use Rattle.roundtrip_text.specs.RewrittenText.{AreAtoms}
 use Rattle.roundtrip_text.specs.Utf8.{AreUtf8}
 use Rattle.roundtrip_text.proofs.Cutting.{cut_forest}
 use Rattle.roundtrip_text.proofs.Utf8.{utf8_apart}
@@ -76,7 +76,7 @@ board_root root board says = root_says root board (header_in root) refl says
 
 -- ---- its trees may be written
 
-writes_atoms : (f : Forest) (bytes : List ℕ) → Writes bytes f → AreAtoms f
+writes_atoms : (f : Forest) (bytes : List ℕ) → WritesForest bytes f → AreAtoms f
 writes_atoms none bytes h = tt
 writes_atoms (atom s q c others) bytes (gap, rest, joined, blank, is, follow, more) = (is, writes_atoms others rest more)
 writes_atoms (list s inside others) bytes (gap, within, rest, joined, blank, inner, more) = (writes_atoms inside within inner, writes_atoms others rest more)
@@ -84,7 +84,7 @@ writes_atoms (list s inside others) bytes (gap, within, rest, joined, blank, inn
 pub spelled_stands : (text : List ℕ) (s : Span) (f : Forest) → Spells text (branch s f) → AreAtoms f × AreUtf8 f
 unfolding Spells
 spelled_stands text s f (utf8, spells) =
-    let writes : Writes (slice_range text 0 (length text)) (list s f none) = cut_forest text 0 (length text) (list s f none) (omega arith) spells in
+    let writes : WritesForest (slice_range text 0 (length text)) (list s f none) = cut_forest text 0 (length text) (list s f none) (omega arith) spells in
     let texts = utf8_apart (slice_range text 0 (length text)) (list s f none) writes (subst IsUtf8 (sym (take_all_of text)) utf8) in
     ((writes_atoms (list s f none) (slice_range text 0 (length text)) writes).0, texts.0)
 

@@ -1,4 +1,4 @@
--- What lists give in a board that is alike, where it has room.
+-- What lists give in a board that is equal up to translation, where it has room.
 use Rattle.std.proofs.Common.{◌≡◌, ◌∙◌, sym, ap, subst, ℕ, ℤ, Bool, true, false, List, Option, Result, Ok, Err}
 use Rattle.std.specs.List.{AllZip}
 use Rattle.sexpr_read.specs.declared.place.Span.{Span}
@@ -7,26 +7,26 @@ use Rattle.board_errors.specs.declared.errors.BoardError.{BoardError}
 use Rattle.board_errors.specs.declared.errors.BoardError.TheVariants.{TooMany}
 use Rattle.board_items.specs.declared.item.Item.{Item}
 use Rattle.board_items.specs.Boards.{PlainBoard, name_of}
-use Rattle.list_read.specs.Answers.{◌>>=◌, check}
-use Rattle.list_read.specs.Heads.{place}
+use Rattle.list_read.specs.FirstRefusals.{◌>>=◌, check}
+use Rattle.list_read.specs.ListHeads.{place}
 use Rattle.part_read.specs.Graphics.{one_item, graphic_by, curve_by, text_by}
-use Rattle.roundtrip_lists.specs.Alike.{Shift, Alike}
-use Rattle.roundtrip_lists.specs.Carried.{shift_of, Becomes, of_unit, Leads, ReadsItems}
+use Rattle.roundtrip_lists.specs.Translated.{Shift, Translated}
+use Rattle.roundtrip_lists.specs.Carried.{shift_of, Becomes, of_unit, IfAccepted, ReadsItems}
 use Rattle.pcb_read.specs.declared.sorts.Sort.TheVariants.{Track, Via, Arc, Graphic, Curve, Text}
 use Rattle.pcb_read.specs.Tracks.{track_of, via_of}
-use Rattle.pcb_read.specs.ItemsOf.{SaysItems, in_room, has_room, on_ground}
-use Rattle.roundtrip_boards.specs.Roots.{SameGround}
+use Rattle.pcb_read.specs.ItemsOf.{SaysItems, in_capacity, has_capacity, on_ground}
+use Rattle.roundtrip_boards.specs.Roots.{SameLayersAndNets}
 use Rattle.zone_read.specs.ZoneOf.{as_it_is}
-use Rattle.roundtrip_lists.proofs.Drawn.{Stances, radius_moved}
-use Rattle.roundtrip_lists.proofs.Graphics.{ground_alike, one_read, graphic_carried, curve_carried, text_carried}
+use Rattle.roundtrip_lists.proofs.Drawn.{Placements, radius_moved}
+use Rattle.roundtrip_lists.proofs.Graphics.{layer_role_translated, one_read, graphic_carried, curve_carried, text_carried}
 use Rattle.roundtrip_lists.specs.Agreeing.{Agrees, Same}
-use Rattle.roundtrip_lists.specs.Moved.{moved_spot}
+use Rattle.roundtrip_lists.specs.Moved.{moved_raw_point}
 use Rattle.roundtrip_lists.proofs.Shapes.{leads_bind, settled}
-use Rattle.part_read.specs.declared.numbers.Spot.{Spot}
+use Rattle.part_read.specs.declared.numbers.RawPoint.{RawPoint}
 use Rattle.part_read.specs.declared.drawings.GraphicKind.{GraphicKind}
-use Rattle.part_read.specs.declared.graphics.Ground.{Ground}
-use Rattle.part_read.specs.Graphics.{ground_of}
-use Rattle.part_read.specs.Stances.{stood}
+use Rattle.part_read.specs.declared.graphics.LayerRole.{LayerRole}
+use Rattle.part_read.specs.Graphics.{layer_role_of}
+use Rattle.part_read.specs.Placements.{stood}
 use Rattle.board_items.specs.declared.item.About.{About}
 use Rattle.copper_layers.specs.declared.set.LayerSet.{LayerSet}
 use Rattle.board_items.specs.Boards.{is_near}
@@ -36,89 +36,89 @@ use Rattle.roundtrip_edited.proofs.Tracks.{track_carried}
 use Rattle.roundtrip_edited.proofs.Vias.{via_carried}
 
 -- the items of an answer in room
-pub found_in_room : (board : PlainBoard) (unit : ℕ) (t : Tree) (answer : Result (List Item) BoardError) (items : List Item) → Ok items ≡ in_room board unit t answer → answer ≡ Ok items
-found_in_room board unit t (Err e) items h = absurd cc
-found_in_room board unit t (Ok found) items h = by_room (has_room board unit found) h
+pub found_in_capacity : (board : PlainBoard) (unit : ℕ) (t : Tree) (answer : Result (List Item) BoardError) (items : List Item) → Ok items ≡ in_capacity board unit t answer → answer ≡ Ok items
+found_in_capacity board unit t (Err e) items h = absurd cc
+found_in_capacity board unit t (Ok found) items h = by_capacity (has_capacity board unit found) h
   where
-    by_room : (b : Bool) → (let a : Result (List Item) BoardError = Ok items in a) ≡ (check (TooMany (place t)) b >>= λ room. Ok found) → (let a : Result (List Item) BoardError = Ok found in a) ≡ Ok items
-    by_room true h = sym h
-    by_room false h = absurd cc
+    by_capacity : (b : Bool) → (let a : Result (List Item) BoardError = Ok items in a) ≡ (check (TooMany (place t)) b >>= λ capacity. Ok found) → (let a : Result (List Item) BoardError = Ok found in a) ≡ Ok items
+    by_capacity true h = sym h
+    by_capacity false h = absurd cc
 
-in_room_found : (board : PlainBoard) (unit : ℕ) (t : Tree) (answer : Result (List Item) BoardError) (items : List Item) → answer ≡ Ok items → has_room board unit items ≡ true → Ok items ≡ in_room board unit t answer
-in_room_found board unit t answer items e room =
-    sym (ap (λ (a : Result (List Item) BoardError). in_room board unit t a) e ∙ ap (λ (b : Bool). check (TooMany (place t)) b >>= λ r. Ok items) room)
+in_capacity_found : (board : PlainBoard) (unit : ℕ) (t : Tree) (answer : Result (List Item) BoardError) (items : List Item) → answer ≡ Ok items → has_capacity board unit items ≡ true → Ok items ≡ in_capacity board unit t answer
+in_capacity_found board unit t answer items e capacity =
+    sym (ap (λ (a : Result (List Item) BoardError). in_capacity board unit t a) e ∙ ap (λ (b : Bool). check (TooMany (place t)) b >>= λ r. Ok items) capacity)
 
-pub same_nets : (board other : PlainBoard) → SameGround board other → (n : ℕ) → name_of board n ≡ name_of other n
+pub same_nets : (board other : PlainBoard) → SameLayersAndNets board other → (n : ℕ) → name_of board n ≡ name_of other n
 same_nets board other ground n = ap (λ (l : List (ℕ × List ℕ)). name_of (record board { nets = l }) n) (sym ground.nets)
 
 -- what the two lists give by these answers
-module _ (board other : PlainBoard) (unit own : ℕ) (t u : Tree) (d : Shift) (answer again : Result (List Item) BoardError) (law : Leads (ReadsItems d own) answer again) (items now : List Item) (become : AllZip (Becomes d) items now) where
+module _ (board other : PlainBoard) (unit own : ℕ) (t u : Tree) (d : Shift) (answer again : Result (List Item) BoardError) (law : IfAccepted (ReadsItems d own) answer again) (items now : List Item) (become : AllZip (Becomes d) items now) where
   read_again : answer ≡ Ok items → again ≡ Ok (of_unit own now)
-  read_again e = subst (λ (a : Result (List Item) BoardError). Leads (ReadsItems d own) a again) e law now become
+  read_again e = subst (λ (a : Result (List Item) BoardError). IfAccepted (ReadsItems d own) a again) e law now become
 
-  pub room_carried : Ok items ≡ in_room board unit t answer → has_room other own (of_unit own now) ≡ true → Ok (of_unit own now) ≡ in_room other own u again
-  room_carried says room = in_room_found other own u again (of_unit own now) (read_again (found_in_room board unit t answer items says)) room
+  pub capacity_carried : Ok items ≡ in_capacity board unit t answer → has_capacity other own (of_unit own now) ≡ true → Ok (of_unit own now) ≡ in_capacity other own u again
+  capacity_carried says capacity = in_capacity_found other own u again (of_unit own now) (read_again (found_in_capacity board unit t answer items says)) capacity
 
 -- nothing is turned or moved but the spots themselves
-stood_there : (s : Spot) → stood as_it_is s ≡ s
-stood_there s = ap (λ (z : ℤ). let r : Spot = record { x = z; y = pos 0 +ℤ s.y } in r) (zero_plus s.x) ∙ ap (λ (z : ℤ). let r : Spot = record { x = s.x; y = z } in r) (zero_plus s.y)
+stood_there : (s : RawPoint) → stood as_it_is s ≡ s
+stood_there s = ap (λ (z : ℤ). let r : RawPoint = record { x = z; y = pos 0 +ℤ s.y } in r) (zero_plus s.x) ∙ ap (λ (z : ℤ). let r : RawPoint = record { x = s.x; y = z } in r) (zero_plus s.y)
   where
     zero_plus : (z : ℤ) → pos 0 +ℤ z ≡ z
     zero_plus z = omega (arith, ints)
 
-pub as_they_are : (o : Option Shift) → Stances o (shift_of o) as_it_is as_it_is
+pub as_they_are : (o : Option Shift) → Placements o (shift_of o) as_it_is as_it_is
 as_they_are o = record {
   stands = λ s t h x y.
       let there = stood_there s in
-      let near_x : is_near (s.x +ℤ (shift_of o).dx) ≡ true = subst (λ (z : Spot). is_near (z.x +ℤ (shift_of o).dx) ≡ true) there x in
-      let near_y : is_near (s.y +ℤ (shift_of o).dy) ≡ true = subst (λ (z : Spot). is_near (z.y +ℤ (shift_of o).dy) ≡ true) there y in
-      stood_there t ∙ settled o s t h near_x near_y ∙ ap (moved_spot (shift_of o)) (sym there);
+      let near_x : is_near (s.x +ℤ (shift_of o).dx) ≡ true = subst (λ (z : RawPoint). is_near (z.x +ℤ (shift_of o).dx) ≡ true) there x in
+      let near_y : is_near (s.y +ℤ (shift_of o).dy) ≡ true = subst (λ (z : RawPoint). is_near (z.y +ℤ (shift_of o).dy) ≡ true) there y in
+      stood_there t ∙ settled o s t h near_x near_y ∙ ap (moved_raw_point (shift_of o)) (sym there);
   radii = λ a c e f h k x y most.
       let there = stood_there a in
-      radius_moved o a c e f h k (subst (λ (z : Spot). is_near (z.x +ℤ (shift_of o).dx) ≡ true) there x) (subst (λ (z : Spot). is_near (z.y +ℤ (shift_of o).dy) ≡ true) there y) most;
+      radius_moved o a c e f h k (subst (λ (z : RawPoint). is_near (z.x +ℤ (shift_of o).dx) ≡ true) there x) (subst (λ (z : RawPoint). is_near (z.y +ℤ (shift_of o).dy) ≡ true) there y) most;
 }
 
-module _ (o : Option Shift) (board other : PlainBoard) (unit own : ℕ) (i j : Forest) (s r : Span) (items now : List Item) (ground : SameGround board other) (alike : Alike o i j) (become : AllZip (Becomes (shift_of o)) items now) where
+module _ (o : Option Shift) (board other : PlainBoard) (unit own : ℕ) (i j : Forest) (s r : Span) (items now : List Item) (ground : SameLayersAndNets board other) (translated : Translated o i j) (become : AllZip (Becomes (shift_of o)) items now) where
   abbrev one : Tree
   one = branch s i
 
   abbrev two : Tree
   two = branch r j
 
-  pub tracks_carried : SaysItems board unit one Track (Ok items) → has_room other own (of_unit own now) ≡ true → SaysItems other own two Track (Ok (of_unit own now))
-  tracks_carried says room =
-      let law = track_carried o board other (sym ground.copper) (same_nets board other ground) unit own i j s r alike in
-      room_carried board other unit own one two (shift_of o) (one_item (track_of board unit one)) (one_item (track_of other own two)) (one_read (shift_of o) own (track_of board unit one) (track_of other own two) law) items now become says room
+  pub tracks_carried : SaysItems board unit one Track (Ok items) → has_capacity other own (of_unit own now) ≡ true → SaysItems other own two Track (Ok (of_unit own now))
+  tracks_carried says capacity =
+      let law = track_carried o board other (sym ground.copper) (same_nets board other ground) unit own i j s r translated in
+      capacity_carried board other unit own one two (shift_of o) (one_item (track_of board unit one)) (one_item (track_of other own two)) (one_read (shift_of o) own (track_of board unit one) (track_of other own two) law) items now become says capacity
 
-  pub vias_carried : SaysItems board unit one Via (Ok items) → has_room other own (of_unit own now) ≡ true → SaysItems other own two Via (Ok (of_unit own now))
-  vias_carried says room =
-      let law = via_carried o board other (sym ground.copper) (same_nets board other ground) unit own i j s r alike in
-      room_carried board other unit own one two (shift_of o) (one_item (via_of board unit one)) (one_item (via_of other own two)) (one_read (shift_of o) own (via_of board unit one) (via_of other own two) law) items now become says room
+  pub vias_carried : SaysItems board unit one Via (Ok items) → has_capacity other own (of_unit own now) ≡ true → SaysItems other own two Via (Ok (of_unit own now))
+  vias_carried says capacity =
+      let law = via_carried o board other (sym ground.copper) (same_nets board other ground) unit own i j s r translated in
+      capacity_carried board other unit own one two (shift_of o) (one_item (via_of board unit one)) (one_item (via_of other own two)) (one_read (shift_of o) own (via_of board unit one) (via_of other own two) law) items now become says capacity
 
   -- an arc gives no items
   pub arcs_carried : SaysItems board unit one Arc (Ok items) → SaysItems other own two Arc (Ok (of_unit own now))
   arcs_carried says = absurd cc
 
   -- by the ground on which both lie
-  on_grounds : (given after : Ground → Result (List Item) BoardError) → ((lies : Ground) → Leads (ReadsItems (shift_of o) own) (given lies) (after lies))
-      → Leads (ReadsItems (shift_of o) own) (on_ground board one given) (on_ground other two after)
+  on_grounds : (given after : LayerRole → Result (List Item) BoardError) → ((lies : LayerRole) → IfAccepted (ReadsItems (shift_of o) own) (given lies) (after lies))
+      → IfAccepted (ReadsItems (shift_of o) own) (on_ground board one given) (on_ground other two after)
   on_grounds given after law =
-      leads_bind Same (ReadsItems (shift_of o) own) (ground_of board.copper one) (ground_of other.copper two) given after
-      (subst (λ (l : LayerSet). Agrees Same (ground_of board.copper one) (ground_of l two)) (sym ground.copper) (ground_alike o board.copper i j s r alike))
-      (λ v w e. subst (λ (z : Ground). Leads (ReadsItems (shift_of o) own) (given v) (after z)) (sym e) (law v))
+      leads_bind Same (ReadsItems (shift_of o) own) (layer_role_of board.copper one) (layer_role_of other.copper two) given after
+      (subst (λ (l : LayerSet). Agrees Same (layer_role_of board.copper one) (layer_role_of l two)) (sym ground.copper) (layer_role_translated o board.copper i j s r translated))
+      (λ v w e. subst (λ (z : LayerRole). IfAccepted (ReadsItems (shift_of o) own) (given v) (after z)) (sym e) (law v))
 
-  pub graphics_carried : (kind : GraphicKind) → SaysItems board unit one (Graphic kind) (Ok items) → has_room other own (of_unit own now) ≡ true → SaysItems other own two (Graphic kind) (Ok (of_unit own now))
-  graphics_carried kind says room =
+  pub graphics_carried : (kind : GraphicKind) → SaysItems board unit one (Graphic kind) (Ok items) → has_capacity other own (of_unit own now) ≡ true → SaysItems other own two (Graphic kind) (Ok (of_unit own now))
+  graphics_carried kind says capacity =
       let law = on_grounds (graphic_by board unit as_it_is kind one) (graphic_by other own as_it_is kind two)
-      (λ lies. graphic_carried o (shift_of o) as_it_is as_it_is (as_they_are o) board other (same_nets board other ground) unit own kind i j s r alike lies) in
-      room_carried board other unit own one two (shift_of o) (on_ground board one (graphic_by board unit as_it_is kind one)) (on_ground other two (graphic_by other own as_it_is kind two)) law items now become says room
+      (λ lies. graphic_carried o (shift_of o) as_it_is as_it_is (as_they_are o) board other (same_nets board other ground) unit own kind i j s r translated lies) in
+      capacity_carried board other unit own one two (shift_of o) (on_ground board one (graphic_by board unit as_it_is kind one)) (on_ground other two (graphic_by other own as_it_is kind two)) law items now become says capacity
 
   pub curves_carried : SaysItems board unit one Curve (Ok items) → SaysItems other own two Curve (Ok (of_unit own now))
   curves_carried says =
       let law = on_grounds (curve_by one) (curve_by two) (λ lies. curve_carried (shift_of o) own one two lies) in
       sym (read_again board other unit own one two (shift_of o) (on_ground board one (curve_by one)) (on_ground other two (curve_by two)) law items now become (sym says))
 
-  pub texts_carried : (about : About) → SaysItems board unit one (Text about) (Ok items) → has_room other own (of_unit own now) ≡ true → SaysItems other own two (Text about) (Ok (of_unit own now))
-  texts_carried about says room =
-      let law = on_grounds (text_by unit about one) (text_by own about two) (λ lies. text_carried o (shift_of o) own unit about i j s r lies alike) in
-      room_carried board other unit own one two (shift_of o) (on_ground board one (text_by unit about one)) (on_ground other two (text_by own about two)) law items now become says room
+  pub texts_carried : (about : About) → SaysItems board unit one (Text about) (Ok items) → has_capacity other own (of_unit own now) ≡ true → SaysItems other own two (Text about) (Ok (of_unit own now))
+  texts_carried about says capacity =
+      let law = on_grounds (text_by unit about one) (text_by own about two) (λ lies. text_carried o (shift_of o) own unit about i j s r lies translated) in
+      capacity_carried board other unit own one two (shift_of o) (on_ground board one (text_by unit about one)) (on_ground other two (text_by own about two)) law items now become says capacity

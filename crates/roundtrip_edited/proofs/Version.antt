@@ -5,12 +5,12 @@ use Rattle.sexpr_read.specs.declared.place.Span.{Span}
 use Rattle.sexpr_read.specs.Tree.{Forest, none, atom, list, Tree, branch, trees, is_list}
 use Rattle.board_errors.specs.declared.errors.BoardError.{BoardError}
 use Rattle.board_errors.specs.declared.errors.BoardError.TheVariants.{NotABoard, Version, Missing}
-use Rattle.list_read.specs.Answers.{◌>>=◌, needed, check}
-use Rattle.list_read.specs.Heads.{place, has_head}
-use Rattle.part_read.specs.Elements.{atom_of}
-use Rattle.roundtrip_text.specs.Anew.{Fate, stays, inside_by, insides_after}
+use Rattle.list_read.specs.FirstRefusals.{◌>>=◌, needed, check}
+use Rattle.list_read.specs.ListHeads.{place, has_head}
+use Rattle.part_read.specs.ElementResults.{atom_of}
+use Rattle.roundtrip_text.specs.RewrittenText.{Disposition, stays, inside_by, insides_after}
 use Rattle.pcb_read.specs.BoardOf.{Reading, is_version, version_in, header_in}
-use Rattle.roundtrip_boards.specs.Written.{Draft, unit_fate, list_fate, FatesAre}
+use Rattle.roundtrip_boards.specs.WrittenBoard.{Draft, unit_disposition, list_disposition, DispositionsAre}
 use Rattle.roundtrip_boards.proofs.Heading.{version_part, holds}
 use Rattle.roundtrip_boards.proofs.Ledger.{same_unit}
 
@@ -36,12 +36,12 @@ version_found s t q c f u h =
 
 -- ---- and stays
 
-pub record VersionStays (f : Forest) (fates : List Fate) : Type 0 where
+pub record VersionStays (f : Forest) (dispositions : List Disposition) : Type 0 where
   pub span : Span
   pub inside : Forest
   pub rest : List Forest
   pub there : find is_list (trees f) ≡ Some (branch span inside)
-  pub are : insides_after fates f ≡ inside ∷ rest
+  pub are : insides_after dispositions f ≡ inside ∷ rest
 
 one_tree : {t u : Tree} → Some t ≡ Some u → t ≡ u
 one_tree h = cc
@@ -49,12 +49,12 @@ one_tree h = cc
 no_version : false ≡ true → ⊥
 no_version e = let c = e in cc
 
-first_stays : (draft : Draft) (tree : Tree) (f : Forest) (a : Reading) (fates : List Fate) → find is_list (trees f) ≡ Some tree → has_head (codes "version") tree ≡ true → FatesAre draft a (trees f) fates → VersionStays f fates
-first_stays draft tree none a fates there named are = absurd cc
-first_stays draft tree (atom s q c others) a fates there named (next, more, says, rest, is) =
+first_stays : (draft : Draft) (tree : Tree) (f : Forest) (a : Reading) (dispositions : List Disposition) → find is_list (trees f) ≡ Some tree → has_head (codes "version") tree ≡ true → DispositionsAre draft a (trees f) dispositions → VersionStays f dispositions
+first_stays draft tree none a dispositions there named are = absurd cc
+first_stays draft tree (atom s q c others) a dispositions there named (next, more, says, rest, is) =
     let k = first_stays draft tree others next more there named rest in
-    record { span = k.span; inside = k.inside; rest = k.rest; there = k.there; are = ap (λ (l : List Fate). insides_after l others) is ∙ k.are }
-first_stays draft tree (list s i others) a fates there named (next, more, says, rest, is) =
+    record { span = k.span; inside = k.inside; rest = k.rest; there = k.there; are = ap (λ (l : List Disposition). insides_after l others) is ∙ k.are }
+first_stays draft tree (list s i others) a dispositions there named (next, more, says, rest, is) =
     let head : has_head (codes "version") (branch s i) ≡ true = subst (λ (t : Tree). has_head (codes "version") t ≡ true) (sym (one_tree there)) named in
     let same : next ≡ a = version_part a next s i head says in
     record {
@@ -63,16 +63,16 @@ first_stays draft tree (list s i others) a fates there named (next, more, says, 
       rest = insides_after more others;
       there = refl;
       are =
-          ap (λ (l : List Fate). insides_after l (list s i others)) is
-          ∙ ap (λ (x : Reading). inside_by i (list_fate draft a x i) ++ insides_after more others) same
+          ap (λ (l : List Disposition). insides_after l (list s i others)) is
+          ∙ ap (λ (x : Reading). inside_by i (list_disposition draft a x i) ++ insides_after more others) same
           ∙ by_unit (nat_eq a.board.next_unit a.board.next_unit) (same_unit a.board.next_unit a.board.next_unit refl) more;
     }
   where
-    by_unit : (b : Bool) → b ≡ true → (more : List Fate) → inside_by i (cond b stays (unit_fate draft i (Some a.board.next_unit))) ++ insides_after more others ≡ i ∷ insides_after more others
+    by_unit : (b : Bool) → b ≡ true → (more : List Disposition) → inside_by i (cond b stays (unit_disposition draft i (Some a.board.next_unit))) ++ insides_after more others ≡ i ∷ insides_after more others
     by_unit true e more = refl
     by_unit false e more = absurd (no_version e)
 
-pub version_stays : (draft : Draft) (a : Reading) (fates : List Fate) (s t : Span) (q : Bool) (c : List ℕ) (f : Forest) (u : Unit {0}) → header_in (branch s (atom t q c f)) ≡ Ok u → FatesAre draft a (trees f) fates → VersionStays f fates
-version_stays draft a fates s t q c f u h are =
+pub version_stays : (draft : Draft) (a : Reading) (dispositions : List Disposition) (s t : Span) (q : Bool) (c : List ℕ) (f : Forest) (u : Unit {0}) → header_in (branch s (atom t q c f)) ≡ Ok u → DispositionsAre draft a (trees f) dispositions → VersionStays f dispositions
+version_stays draft a dispositions s t q c f u h are =
     let first = version_found s t q c f u h in
-    first_stays draft first.tree f a fates first.there first.named are
+    first_stays draft first.tree f a dispositions first.there first.named are

@@ -1,4 +1,4 @@
--- A via's list that is alike gives the via, carried.
+-- A via's list that is equal up to translation gives the via, carried.
 use Rattle.std.proofs.Common.{◌≡◌, ◌∙◌, refl, sym, ap, subst, ℕ, ℤ, pos, ◌+ℤ◌, ◌*ℤ◌, Bool, true, List, [], ◌∷◌, Option, None, Some, Ok, codes}
 use Rattle.std.specs.Prelude.{unwrap_or}
 use Rattle.int_algebra.proofs.Tested.{front, back}
@@ -12,36 +12,36 @@ use Rattle.board_items.specs.declared.parts.Part.{Part}
 use Rattle.board_items.specs.declared.item.Hole.{Hole}
 use Rattle.board_items.specs.declared.item.What.TheVariants.{Via}
 use Rattle.board_items.specs.declared.item.Item.{Item}
-use Rattle.board_items.specs.Moves.{AreShifted, HoleIsShifted}
+use Rattle.board_items.specs.ItemMoves.{AreShifted, HoleIsShifted}
 use Rattle.board_items.specs.Boards.{PlainBoard, name_of}
-use Rattle.part_read.specs.declared.numbers.Spot.{Spot}
-use Rattle.list_read.specs.Answers.{needed}
-use Rattle.list_read.specs.Heads.{place, has_word}
-use Rattle.list_read.specs.Elements.{element}
-use Rattle.part_read.specs.Elements.{name_in, in_needed, in_given}
-use Rattle.part_read.specs.Numbers.{spot_of, size_at, size_of}
-use Rattle.part_read.specs.LayersOf.{layers_through}
+use Rattle.part_read.specs.declared.numbers.RawPoint.{RawPoint}
+use Rattle.list_read.specs.FirstRefusals.{needed}
+use Rattle.list_read.specs.ListHeads.{place, has_word}
+use Rattle.list_read.specs.NamedElements.{element}
+use Rattle.part_read.specs.ElementResults.{name_in, in_needed, in_given}
+use Rattle.part_read.specs.BoardNumbers.{raw_point_of, size_at, size_of}
+use Rattle.part_read.specs.BoardLayers.{layers_through}
 use Rattle.part_read.specs.NetsOf.{net_of}
 use Rattle.part_read.specs.OnBoard.{is_strip, strip_shape}
 use Rattle.part_read.proofs.Shapes.{is_tested}
 use Rattle.pcb_read.specs.declared.items.Origin.{Origin}
 use Rattle.pcb_read.specs.declared.items.ViaForm.{ViaForm}
 use Rattle.pcb_read.specs.Tracks.{disc, is_drill, is_hole, hole_by, hole_through, is_via, via_at, via_of}
-use Rattle.roundtrip_lists.specs.Alike.{Shift, Alike}
+use Rattle.roundtrip_lists.specs.Translated.{Shift, Translated}
 use Rattle.roundtrip_lists.specs.Agreeing.{Agrees, Same}
-use Rattle.roundtrip_lists.specs.Moved.{moved_spot, IsMovedSpot}
-use Rattle.roundtrip_lists.specs.Carried.{shift_of, Leads, ReadsCarried}
+use Rattle.roundtrip_lists.specs.Moved.{moved_raw_point, IsMovedRawPoint}
+use Rattle.roundtrip_lists.specs.Carried.{shift_of, IfAccepted, ReadsCarried}
 use Rattle.roundtrip_lists.proofs.Elements.{inside_by_head}
-use Rattle.roundtrip_lists.proofs.Numbers.{needed_alike, size_alike, name_alike, net_alike}
-use Rattle.roundtrip_lists.proofs.Spots.{spot_alike}
+use Rattle.roundtrip_lists.proofs.Numbers.{needed_translated, size_translated, name_translated, net_translated}
+use Rattle.roundtrip_lists.proofs.RawPoints.{raw_point_translated}
 use Rattle.roundtrip_lists.proofs.Shapes.{one_item, one_hole, leads_bind, leads_tested, settled, two_pass}
 use Rattle.roundtrip_edited.proofs.Tracks.{StripCarried, strip_carried, strip_there, moved_strip, part_made}
-use Rattle.roundtrip_edited.proofs.Given.{size_given, word_alike, through_alike}
+use Rattle.roundtrip_edited.proofs.Given.{size_given, word_translated, through_translated}
 
 -- ---- the hole of a via that is carried
 
 abbrev moved_form : Shift → ViaForm → ViaForm
-moved_form d form = record form { at = moved_spot d form.at }
+moved_form d form = record form { at = moved_raw_point d form.at }
 
 drill_carried : (d : Shift) (form : ViaForm) (layers : LayerSet) (drill : Option ℤ) (fits : is_drill form drill ≡ true) (hole : Option Hole)
     → HoleIsShifted (pos 2 *ℤ d.dx) (pos 2 *ℤ d.dy) (hole_by form layers drill fits) hole
@@ -77,22 +77,22 @@ module _ (d : Shift) (form : ViaForm) (origin : Origin) (fits : is_via form ≡ 
       (m.1 (back _ _ fit)) el ew) there))
 
 -- the last step: what was read of both lists
-last_step : (d : Option Shift) (form new : ViaForm) (origin own : Origin) (e f : BoardError) → IsMovedSpot d form.at new.at → new.size ≡ form.size → new.drill ≡ form.drill → new.micro ≡ form.micro → new.blind ≡ form.blind
+last_step : (d : Option Shift) (form new : ViaForm) (origin own : Origin) (e f : BoardError) → IsMovedRawPoint d form.at new.at → new.size ≡ form.size → new.drill ≡ form.drill → new.micro ≡ form.micro → new.blind ≡ form.blind
     → own.name ≡ origin.name → own.net ≡ origin.net → own.layers ≡ origin.layers
-    → Leads (ReadsCarried (shift_of d) own.unit) (needed e (via_at form origin)) (needed f (via_at new own))
+    → IfAccepted (ReadsCarried (shift_of d) own.unit) (needed e (via_at form origin)) (needed f (via_at new own))
 last_step d form new origin own e f a es ed em eb en et el =
     leads_tested (ReadsCarried (shift_of d) own.unit) e (is_via form) _ (needed f (via_at new own))
     (λ fits. (
       refl,
       λ moved c on_board of_unit.
           let k = (near_ends fits moved.copper c.copper).1 in
-          let at : new.at ≡ moved_spot (shift_of d) form.at = settled d form.at new.at a k.start_x k.start_y in
+          let at : new.at ≡ moved_raw_point (shift_of d) form.at = settled d form.at new.at a k.start_x k.start_y in
           let same : new ≡ moved_form (shift_of d) form =
-          ap (λ (z : Spot). let t : ViaForm = record new { at = z } in t) at
-          ∙ ap (λ (z : ℤ). let t : ViaForm = record { at = moved_spot (shift_of d) form.at; size = z; drill = new.drill; micro = new.micro; blind = new.blind } in t) es
-          ∙ ap (λ (z : Option ℤ). let t : ViaForm = record { at = moved_spot (shift_of d) form.at; size = form.size; drill = z; micro = new.micro; blind = new.blind } in t) ed
-          ∙ ap (λ (z : Bool). let t : ViaForm = record { at = moved_spot (shift_of d) form.at; size = form.size; drill = form.drill; micro = z; blind = new.blind } in t) em
-          ∙ ap (λ (z : Bool). let t : ViaForm = record { at = moved_spot (shift_of d) form.at; size = form.size; drill = form.drill; micro = form.micro; blind = z } in t) eb in
+          ap (λ (z : RawPoint). let t : ViaForm = record new { at = z } in t) at
+          ∙ ap (λ (z : ℤ). let t : ViaForm = record { at = moved_raw_point (shift_of d) form.at; size = z; drill = new.drill; micro = new.micro; blind = new.blind } in t) es
+          ∙ ap (λ (z : Option ℤ). let t : ViaForm = record { at = moved_raw_point (shift_of d) form.at; size = form.size; drill = z; micro = new.micro; blind = new.blind } in t) ed
+          ∙ ap (λ (z : Bool). let t : ViaForm = record { at = moved_raw_point (shift_of d) form.at; size = form.size; drill = form.drill; micro = z; blind = new.blind } in t) em
+          ∙ ap (λ (z : Bool). let t : ViaForm = record { at = moved_raw_point (shift_of d) form.at; size = form.size; drill = form.drill; micro = form.micro; blind = z } in t) eb in
           let of_other : own ≡ record { name = own.name; unit = own.unit; net = origin.net; layers = origin.layers } =
           ap (λ (n : ℕ). let o : Origin = record { name = own.name; unit = own.unit; net = n; layers = own.layers } in o) et
           ∙ ap (λ (l : LayerSet). let o : Origin = record { name = own.name; unit = own.unit; net = origin.net; layers = l } in o) el in
@@ -107,22 +107,22 @@ last_step d form new origin own e f a es ed em eb en et el =
     near_ends fits [] h = absurd h
     near_ends fits (p ∷ ps) h = (p.shape, strip_carried (shift_of d) (disc form form.size) (front _ _ fits) p.shape h.0.shape)
 
-pub via_carried : (d : Option Shift) (board other : PlainBoard) → board.copper ≡ other.copper → ((n : ℕ) → name_of board n ≡ name_of other n) → (unit own : ℕ) (i j : Forest) (s r : Span) → Alike d i j
-    → Leads (ReadsCarried (shift_of d) own) (via_of board unit (branch s i)) (via_of other own (branch r j))
+pub via_carried : (d : Option Shift) (board other : PlainBoard) → board.copper ≡ other.copper → ((n : ℕ) → name_of board n ≡ name_of other n) → (unit own : ℕ) (i j : Forest) (s r : Span) → Translated d i j
+    → IfAccepted (ReadsCarried (shift_of d) own) (via_of board unit (branch s i)) (via_of other own (branch r j))
 unfolding via_of
 via_carried d board other layers nets unit own i j s r h =
     let Q = ReadsCarried (shift_of d) own in
     let one : Tree = branch s i in
     let two : Tree = branch r j in
-    leads_bind (IsMovedSpot d) Q (spot_of (codes "at") one) (spot_of (codes "at") two) _ _ (spot_alike d (codes "at") refl i j s r h) (λ a a' ea.
-    leads_bind Same Q (size_of (codes "size") one) (size_of (codes "size") two) _ _ (size_alike d (codes "size") refl i j s r h) (λ w w' ew.
+    leads_bind (IsMovedRawPoint d) Q (raw_point_of (codes "at") one) (raw_point_of (codes "at") two) _ _ (raw_point_translated d (codes "at") refl i j s r h) (λ a a' ea.
+    leads_bind Same Q (size_of (codes "size") one) (size_of (codes "size") two) _ _ (size_translated d (codes "size") refl i j s r h) (λ w w' ew.
     leads_bind Same Q (in_given size_at (element (codes "drill") one)) (in_given size_at (element (codes "drill") two)) _ _ (size_given d (codes "drill") refl i j s r h) (λ m m' em.
     leads_bind Same Q (in_needed (layers_through board.copper) one (element (codes "layers") one)) (in_needed (layers_through other.copper) two (element (codes "layers") two)) _ _
     (subst (λ (l : LayerSet). Agrees Same (in_needed (layers_through board.copper) one (element (codes "layers") one)) (in_needed (layers_through l) two (element (codes "layers") two))) layers
-    (needed_alike Same d (codes "layers") (layers_through board.copper) (layers_through board.copper) one two i j s r h (λ x y k e. through_alike d board.copper x y (inside_by_head d x y (codes "layers") k e refl)))) (λ l l' el.
-    leads_bind Same Q (net_of board one) (net_of other two) _ _ (net_alike d board other nets i j s r h) (λ n n' en.
+    (needed_translated Same d (codes "layers") (layers_through board.copper) (layers_through board.copper) one two i j s r h (λ x y k e. through_translated d board.copper x y (inside_by_head d x y (codes "layers") k e refl)))) (λ l l' el.
+    leads_bind Same Q (net_of board one) (net_of other two) _ _ (net_translated d board other nets i j s r h) (λ n n' en.
     last_step d (record { at = a; size = w; drill = m; micro = has_word (codes "micro") one; blind = has_word (codes "blind") one })
     (record { at = a'; size = w'; drill = m'; micro = has_word (codes "micro") two; blind = has_word (codes "blind") two })
     (record { name = name_in one; unit = unit; net = n; layers = l })
     (record { name = name_in two; unit = own; net = n'; layers = l' }) (OutOfBoard (place one)) (OutOfBoard (place two)) ea ew em
-    (word_alike d (codes "micro") i j s r h) (word_alike d (codes "blind") i j s r h) (sym (name_alike d i j s r h)) en el)))))
+    (word_translated d (codes "micro") i j s r h) (word_translated d (codes "blind") i j s r h) (sym (name_translated d i j s r h)) en el)))))

@@ -1,3 +1,3 @@
 pub mod Footprints
-pub mod Given
+pub mod ListResults
 pub mod Carries

@@ -6,33 +6,33 @@ ghost use Rattle.sexpr_read.specs.Tree.{Forest, atom, Tree, branch, trees, is_li
 ghost use Rattle.board_items.specs.declared.item.Item.{Item};
 ghost use Rattle.board_items.specs.Boards.{PlainBoard};
 ghost use Rattle.roundtrip_text.specs.Pieces.{SameTrees};
-ghost use Rattle.roundtrip_text.specs.Anew.{insides};
+ghost use Rattle.roundtrip_text.specs.RewrittenText.{insides};
 ghost use Rattle.pcb_read.specs.declared.sorts.Sort.{Sort};
 ghost use Rattle.pcb_read.specs.declared.sorts.Sort.TheVariants.{Footprint};
 ghost use Rattle.pcb_read.specs.Sorts.{sort_of};
-ghost use Rattle.pcb_read.specs.ItemsOf.{SaysItems, has_room};
+ghost use Rattle.pcb_read.specs.ItemsOf.{SaysItems, has_capacity};
 ghost use Rattle.pcb_read.specs.BoardOf.{Reading, with_other, header_in};
-ghost use Rattle.roundtrip_lists.specs.Alike.{Shift, Alike, AlikeTrees};
+ghost use Rattle.roundtrip_lists.specs.Translated.{Shift, Translated, TranslatedTrees};
 ghost use Rattle.roundtrip_lists.specs.Carried.{shift_of, of_unit, ItemsOf};
 ghost use Rattle.roundtrip_edited.specs.Footprints.{is_footprint};
-ghost use Rattle.roundtrip_boards.specs.Roots.{SameGround, SameItems};
-ghost use Rattle.roundtrip_boards.specs.Written.{moved_if, IsWritten};
+ghost use Rattle.roundtrip_boards.specs.Roots.{SameLayersAndNets, SameItems};
+ghost use Rattle.roundtrip_boards.specs.WrittenBoard.{moved_if, IsWritten};
 ghost use Rattle.roundtrip_boards.specs.Ledger.{Entry, AreNow};
 ghost use Rattle.roundtrip_boards.specs.Reads.{IsUnit};
-ghost use Rattle.roundtrip_boards.specs.Same.{IsReadBack};
+ghost use Rattle.roundtrip_boards.specs.SameBoards.{IsReadBack};
 ghost use Rattle.roundtrip_edited.specs.Carries.{Carries};
 
-/// A list is of the same sort when it is written anew, and parts that give no items leave those of the board. Read on boards with the
+/// A list is of the same sort when it is rewritten, and parts that give no items leave those of the board. Read on boards with the
 /// same layers and nets, they leave those the same.
 pub fn parts()
-    ensures plain { (t u : Tree) → AlikeTrees None t u → sort_of t ≡ sort_of u }
+    ensures plain { (t u : Tree) → TranslatedTrees None t u → sort_of t ≡ sort_of u }
     ensures moved { (s r : Span) (i j : Forest) (o : Option Shift) → SameTrees (moved_if o i) j
         → sort_of (branch r j) ≡ sort_of (branch s i) }
     ensures kept { (a next : Reading) (t : Tree) → with_other a t ≡ Ok next
         → (next.board.items ≡ a.board.items) × (next.board.next_unit ≡ a.board.next_unit) }
-    ensures others { (t u : Tree) (a b next : Reading) → AlikeTrees None t u
-        → SameGround a.board b.board → b.layered ≡ a.layered → with_other a t ≡ Ok next
-        → (new : Reading) × (with_other b u ≡ Ok new) × SameGround next.board new.board
+    ensures others { (t u : Tree) (a b next : Reading) → TranslatedTrees None t u
+        → SameLayersAndNets a.board b.board → b.layered ≡ a.layered → with_other a t ≡ Ok next
+        → (new : Reading) × (with_other b u ≡ Ok new) × SameLayersAndNets next.board new.board
         × (new.layered ≡ next.layered) × SameItems b.board new.board }
 {}
 
@@ -44,31 +44,31 @@ pub fn header()
         → insides kept ≡ i ∷ others → header_in (branch p forest) ≡ Ok tt }
 {}
 
-/// The list of a unit, written anew, carries the items that the unit has become, and gives them where the board has room, whatever it
+/// The list of a unit, rewritten, carries the items that the unit has become, and gives them where the board has room, whatever it
 /// is but a footprint. A unit takes one number.
 pub fn lists()
     ensures carries { (sort : Sort) (s r : Span) (i j : Forest) (o : Option Shift) (e : Entry)
         → sort_of (branch s i) ≡ Some sort → SameTrees (moved_if o i) j → AreNow (shift_of o) e
         → Carries sort (branch s i) (branch r j) e.read (map (λ (x : ℕ × Item). x.1) e.now) }
     ensures without { (sort : Sort) (s r : Span) (i j : Forest) → sort_of (branch s i) ≡ Some sort
-        → Alike None i j → Carries sort (branch s i) (branch r j) [] [] }
+        → Translated None i j → Carries sort (branch s i) (branch r j) [] [] }
     ensures long { (sort : Sort) (t u : Tree) (items now : List Item) → Carries sort t u items now
         → length now ≡ length items }
     ensures carried { (sort : Sort) (board other : PlainBoard) (unit own : ℕ) (t u : Tree)
-        (items now : List Item) → is_footprint sort ≡ false → SameGround board other
+        (items now : List Item) → is_footprint sort ≡ false → SameLayersAndNets board other
         → SaysItems board unit t sort (Ok items) → Carries sort t u items now
-        → has_room other own now ≡ true → SaysItems other own u sort (Ok (of_unit own now)) }
+        → has_capacity other own now ≡ true → SaysItems other own u sort (Ok (of_unit own now)) }
     ensures grows { (a next : Reading) (t : Tree) (i : Item) (items : List Item)
         → IsUnit a next t (i ∷ items) → ItemsOf a.board.next_unit (i ∷ items)
         → next.board.next_unit ≡ suc a.board.next_unit }
 {}
 
-/// The list of a footprint, written anew, carries the items that the unit has become, and gives them where the board has room. A unit
+/// The list of a footprint, rewritten, carries the items that the unit has become, and gives them where the board has room. A unit
 /// takes one number.
 pub fn footprints()
     ensures carried { (board other : PlainBoard) (unit own : ℕ) (t u : Tree) (items now : List Item)
-        → SameGround board other → SaysItems board unit t Footprint (Ok items)
-        → Carries Footprint t u items now → has_room other own now ≡ true
+        → SameLayersAndNets board other → SaysItems board unit t Footprint (Ok items)
+        → Carries Footprint t u items now → has_capacity other own now ≡ true
         → SaysItems other own u Footprint (Ok (of_unit own now)) }
     ensures stand { (board : PlainBoard) (unit : ℕ) (t : Tree) (items : List Item)
         → SaysItems board unit t Footprint (Ok items) → ItemsOf unit items }

@@ -14,12 +14,12 @@ use Rattle.board_items.specs.declared.item.About.TheVariants.{Courtyard}
 use Rattle.board_items.specs.declared.item.What.TheVariants.{Body}
 use Rattle.board_items.specs.declared.item.Item.{Item}
 use Rattle.board_items.specs.Boards.{PlainBoard, name_of, is_near}
-use Rattle.board_items.specs.Moves.{AreShifted}
-use Rattle.board_items.specs.Refusals.{room_of}
-use Rattle.part_read.specs.declared.numbers.Spot.{Spot}
-use Rattle.list_read.specs.Answers.{◌>>=◌, check}
-use Rattle.list_read.specs.Heads.{place}
-use Rattle.part_read.specs.Elements.{name_in}
+use Rattle.board_items.specs.ItemMoves.{AreShifted}
+use Rattle.board_items.specs.ItemRefusals.{capacity_of}
+use Rattle.part_read.specs.declared.numbers.RawPoint.{RawPoint}
+use Rattle.list_read.specs.FirstRefusals.{◌>>=◌, check}
+use Rattle.list_read.specs.ListHeads.{place}
+use Rattle.part_read.specs.ElementResults.{name_in}
 use Rattle.part_read.specs.OnBoard.{fits_board}
 use Rattle.pad_read.specs.declared.head.Head.{Head}
 use Rattle.footprint_read.specs.declared.sides.CourtSide.{CourtSide}
@@ -29,16 +29,16 @@ use Rattle.footprint_read.specs.declared.courts.Court.{Court}
 use Rattle.footprint_read.specs.declared.courts.Court.TheVariants.{Unchecked, Parts, Off}
 use Rattle.footprint_read.specs.Courtyards.{IsCourt, parts_in, lies_on_board}
 use Rattle.footprint_read.specs.FootHead.{head_of}
-use Rattle.footprint_read.specs.FootprintOf.{body_of, court_notes, all_given, items_of, with_room, in_room, is_placed, finished, contents_of, SaysInside, SaysWithHead, FootprintSays}
-use Rattle.roundtrip_lists.specs.Alike.{Shift}
+use Rattle.footprint_read.specs.FootprintOf.{body_of, court_notes, all_given, items_of, with_reserved, in_capacity, is_placed, finished, contents_of, SaysInside, SaysWithHead, FootprintSays}
+use Rattle.roundtrip_lists.specs.Translated.{Shift}
 use Rattle.roundtrip_lists.specs.Agreeing.{Agrees}
 use Rattle.roundtrip_lists.specs.Carried.{IsCarried, Becomes, of_unit}
-use Rattle.roundtrip_lists.specs.Moved.{moved_spot}
+use Rattle.roundtrip_lists.specs.Moved.{moved_raw_point}
 use Rattle.roundtrip_lists.proofs.Shapes.{one_item, settled, two_pass}
 use Rattle.roundtrip_lists.proofs.Graphics.{no_parts, no_hole, note_read}
 use Rattle.roundtrip_lists.proofs.Placed.{same_ok}
-use Rattle.roundtrip_footprints.specs.Heads.{moved_stance, moved_head}
-use Rattle.roundtrip_footprints.specs.Places.{AtMoved}
+use Rattle.roundtrip_footprints.specs.MovedHeads.{moved_placement, moved_head}
+use Rattle.roundtrip_footprints.specs.FootprintPlaces.{AtMoved}
 use Rattle.roundtrip_footprints.proofs.Finding.{name_again}
 use Rattle.roundtrip_footprints.proofs.Heading.{HeadAgain, head_again}
 use Rattle.roundtrip_footprints.proofs.Courts.{court_with, CourtAgain, court_again}
@@ -47,24 +47,24 @@ use Rattle.roundtrip_footprints.proofs.Feet.{foot_says, all_items}
 
 -- ---- room
 
-room_again : (board : PlainBoard) (unit : ℕ) (gs : List Given) (before : ℕ) → before + length gs ≤ room_of board → unit < 4294967295 → with_room board unit before gs ≡ Ok tt
-room_again board unit [] before few low = refl
-room_again board unit (g ∷ gs) before few low =
-    ap (λ (b : Bool). cond {A = Result (Unit {0}) BoardError} b (with_room board unit (suc before) gs) (Err (TooMany g.place)))
-    (two_pass (ltb before (room_of board)) (ltb unit 4294967295) (lt-ltb before (room_of board) (omega (arith, few))) (lt-ltb unit 4294967295 low))
-    ∙ room_again board unit gs (suc before) (omega (arith, few)) low
+capacity_again : (board : PlainBoard) (unit : ℕ) (gs : List Given) (before : ℕ) → before + length gs ≤ capacity_of board → unit < 4294967295 → with_reserved board unit before gs ≡ Ok tt
+capacity_again board unit [] before few low = refl
+capacity_again board unit (g ∷ gs) before few low =
+    ap (λ (b : Bool). cond {A = Result (Unit {0}) BoardError} b (with_reserved board unit (suc before) gs) (Err (TooMany g.place)))
+    (two_pass (ltb before (capacity_of board)) (ltb unit 4294967295) (lt-ltb before (capacity_of board) (omega (arith, few))) (lt-ltb unit 4294967295 low))
+    ∙ capacity_again board unit gs (suc before) (omega (arith, few)) low
 
 -- where there is room, and all lies on the board, it is finished
 finished_again : (board : PlainBoard) (unit : ℕ) (head : Head) (tree : Tree) (given : List Given) (front back : Court) (items : List Item) → is_placed head front back ≡ true → items_of (all_given unit head tree given front back) ≡ items
-    → length items ≤ room_of board → unit < 4294967295 → Ok items ≡ finished board unit head tree given front back
+    → length items ≤ capacity_of board → unit < 4294967295 → Ok items ≡ finished board unit head tree given front back
 unfolding finished
 finished_again board unit head tree given front back items placed are few low =
     let all = all_given unit head tree given front back in
     let long : length all ≡ length items = sym (length-map all (λ (g : Given). g.item)) ∙ ap length are in
-    let room : with_room board unit 0 all ≡ Ok tt = room_again board unit all 0 (omega (arith, long, few)) low in
+    let capacity : with_reserved board unit 0 all ≡ Ok tt = capacity_again board unit all 0 (omega (arith, long, few)) low in
     sym
-    (ap (λ (b : Bool). check (OutOfBoard (place tree)) b >>= λ on_board. in_room board unit all) placed
-    ∙ ap (λ (r : Result (Unit {0}) BoardError). r >>= λ room. Ok (items_of all)) room
+    (ap (λ (b : Bool). check (OutOfBoard (place tree)) b >>= λ on_board. in_capacity board unit all) placed
+    ∙ ap (λ (r : Result (Unit {0}) BoardError). r >>= λ capacity. Ok (items_of all)) capacity
     ∙ ap (λ (l : List Item). let r : Result (List Item) BoardError = Ok l in r) are)
 
 module _ (d : Shift) (board other : PlainBoard) (copper : other.copper ≡ board.copper) (nets : (n : ℕ) → name_of board n ≡ name_of other n) (unit own : ℕ) (i j : Forest) (s r : Span) (h : AtMoved d i j) where
@@ -76,7 +76,7 @@ module _ (d : Shift) (board other : PlainBoard) (copper : other.copper ≡ board
 
   -- ---- the head
 
-  head_there : (head : Head) → head_of board.copper one ≡ Ok head → is_near (head.stance.at.x +ℤ d.dx) ≡ true → is_near (head.stance.at.y +ℤ d.dy) ≡ true → head_of other.copper two ≡ Ok (moved_head d head)
+  head_there : (head : Head) → head_of board.copper one ≡ Ok head → is_near (head.placement.at.x +ℤ d.dx) ≡ true → is_near (head.placement.at.y +ℤ d.dy) ≡ true → head_of other.copper two ≡ Ok (moved_head d head)
   head_there head e near_x near_y =
       ap (λ (l : LayerSet). head_of l two) copper
       ∙ by_answer (head_of board.copper two) refl (subst (λ (a : Result Head BoardError). Agrees (HeadAgain d board.copper i j s r h) a (head_of board.copper two)) e (head_again d board.copper i j s r h))
@@ -84,8 +84,8 @@ module _ (d : Shift) (board other : PlainBoard) (copper : other.copper ≡ board
       by_answer : (a : Result Head BoardError) → head_of board.copper two ≡ a → Agrees (HeadAgain d board.copper i j s r h) (Ok head) a → head_of board.copper two ≡ Ok (moved_head d head)
       by_answer (Err e) k again = absurd again
       by_answer (Ok y) k again =
-          let at : again.spot ≡ moved_spot d head.stance.at = settled (Some d) head.stance.at again.spot again.moved near_x near_y in
-          k ∙ ap (λ (z : Head). let a : Result Head BoardError = Ok z in a) (again.is ∙ ap (λ (z : Spot). record head { stance = record { quarter = head.stance.quarter; at = z } }) at)
+          let at : again.raw_point ≡ moved_raw_point d head.placement.at = settled (Some d) head.placement.at again.raw_point again.moved near_x near_y in
+          k ∙ ap (λ (z : Head). let a : Result Head BoardError = Ok z in a) (again.is ∙ ap (λ (z : RawPoint). record head { placement = record { quarter = head.placement.quarter; at = z } }) at)
 
   -- ---- what the children give
 
@@ -126,8 +126,8 @@ module _ (d : Shift) (board other : PlainBoard) (copper : other.copper ≡ board
     what : moved.what ≡ Body head.reference fronts backs head.on_back
     shifted_fronts : AreShifted (pos 2 *ℤ d.dx) (pos 2 *ℤ d.dy) (parts_in front) fronts
     shifted_backs : AreShifted (pos 2 *ℤ d.dx) (pos 2 *ℤ d.dy) (parts_in back) backs
-    near_x : is_near (head.stance.at.x +ℤ d.dx) ≡ true
-    near_y : is_near (head.stance.at.y +ℤ d.dy) ≡ true
+    near_x : is_near (head.placement.at.x +ℤ d.dx) ≡ true
+    near_y : is_near (head.placement.at.y +ℤ d.dy) ≡ true
     carried : IsCarried d (body_of unit head one front back) moved
 
   body_carried : (head : Head) (front back : Court) (moved : Item) → Becomes d (body_of unit head one front back) moved → BodyCarried head front back moved
@@ -214,36 +214,36 @@ module _ (d : Shift) (board other : PlainBoard) (copper : other.copper ≡ board
 
   -- ---- the whole
 
-  says_again : (head : Head) (new : Contents) (front back : Court) (items : List Item) → head_of other.copper two ≡ Ok head → contents_of other own head two ≡ Ok new → IsCourt head.stance new.front front → IsCourt head.stance new.back back
-      → is_placed head front back ≡ true → items_of (all_given own head two new.given front back) ≡ items → length items ≤ room_of other → own < 4294967295 → FootprintSays other own two (Ok items)
+  says_again : (head : Head) (new : Contents) (front back : Court) (items : List Item) → head_of other.copper two ≡ Ok head → contents_of other own head two ≡ Ok new → IsCourt head.placement new.front front → IsCourt head.placement new.back back
+      → is_placed head front back ≡ true → items_of (all_given own head two new.given front back) ≡ items → length items ≤ capacity_of other → own < 4294967295 → FootprintSays other own two (Ok items)
   says_again head new front back items eh ec of_front of_back placed are few low =
       subst (λ (a : Result Head BoardError). SaysWithHead other own two a (Ok items)) (sym eh)
       (subst (λ (a : Result Contents BoardError). SaysInside other own head two a (Ok items)) (sym ec)
       (record { front = front; back = back; of_front = of_front; of_back = of_back; same = finished_again other own head two new.given front back items placed are few low }))
 
   with_courts : (head : Head) (contents : Contents) (front back : Court) (now : List Item) → head_of board.copper one ≡ Ok head → contents_of board unit head one ≡ Ok contents → (a : AllNow head contents front back now)
-      → (b : BodyCarried head front back a.moved) → CourtAgain d head.stance contents.front front b.fronts → CourtAgain d head.stance contents.back back b.backs → length now ≤ room_of other → own < 4294967295 → FootprintSays other own two (Ok (of_unit own now))
+      → (b : BodyCarried head front back a.moved) → CourtAgain d head.placement contents.front front b.fronts → CourtAgain d head.placement contents.back back b.backs → length now ≤ capacity_of other → own < 4294967295 → FootprintSays other own two (Ok (of_unit own now))
   with_courts head contents front back now eh ec a b f k few low =
       let c = contents_again head contents a.given ec a.of_given in
       let new_front = court_with d front b.fronts in
       let new_back = court_with d back b.backs in
       let body = body_again head front back new_front new_back a.moved b f.parts k.parts in
       let items = items_again head contents front back new_front new_back now a c body (notes_again (codes "F.CrtYd") front b.fronts a.front_notes a.of_front) (notes_again (codes "B.CrtYd") back b.backs a.back_notes a.of_back) in
-      let of_front : IsCourt (moved_stance d head.stance) c.contents.front new_front = subst (λ (x : CourtSide). IsCourt (moved_stance d head.stance) x new_front) (sym c.front) f.is in
-      let of_back : IsCourt (moved_stance d head.stance) c.contents.back new_back = subst (λ (x : CourtSide). IsCourt (moved_stance d head.stance) x new_back) (sym c.back) k.is in
+      let of_front : IsCourt (moved_placement d head.placement) c.contents.front new_front = subst (λ (x : CourtSide). IsCourt (moved_placement d head.placement) x new_front) (sym c.front) f.is in
+      let of_back : IsCourt (moved_placement d head.placement) c.contents.back new_back = subst (λ (x : CourtSide). IsCourt (moved_placement d head.placement) x new_back) (sym c.back) k.is in
       let placed : is_placed (moved_head d head) new_front new_back ≡ true =
-      two_pass (fits_board (moved_spot d head.stance.at)) (lies_on_board new_front && lies_on_board new_back) (two_pass (is_near (head.stance.at.x +ℤ d.dx)) (is_near (head.stance.at.y +ℤ d.dy)) b.near_x b.near_y)
+      two_pass (fits_board (moved_raw_point d head.placement.at)) (lies_on_board new_front && lies_on_board new_back) (two_pass (is_near (head.placement.at.x +ℤ d.dx)) (is_near (head.placement.at.y +ℤ d.dy)) b.near_x b.near_y)
       (two_pass (lies_on_board new_front) (lies_on_board new_back) f.lies k.lies) in
       let long : length (of_unit own now) ≡ length now = length-map now (λ (x : Item). record x { unit = own }) in
       says_again (moved_head d head) c.contents new_front new_back (of_unit own now) (head_there head eh b.near_x b.near_y) c.is of_front of_back placed items (omega (arith, long, few)) low
 
-  pub foot_carried : (items now : List Item) → AllZip (Becomes d) items now → FootprintSays board unit one (Ok items) → length now ≤ room_of other → own < 4294967295 → FootprintSays other own two (Ok (of_unit own now))
+  pub foot_carried : (items now : List Item) → AllZip (Becomes d) items now → FootprintSays board unit one (Ok items) → length now ≤ capacity_of other → own < 4294967295 → FootprintSays other own two (Ok (of_unit own now))
   foot_carried items now become says few low =
       let k = foot_says board unit one items says in
       let all = sym (all_items unit k.head one k.contents.given k.front k.back) ∙ k.are in
       let a = all_now k.head k.contents k.front k.back now (subst (λ (l : List Item). Become d own l now) (sym all) become) in
       let b = body_carried k.head k.front k.back a.moved a.body in
-      let lies = second_holds (fits_board k.head.stance.at) (lies_on_board k.front && lies_on_board k.back) k.placed in
-      let front = court_again d k.head.stance k.contents.front k.front b.fronts k.of_front (first_holds (lies_on_board k.front) (lies_on_board k.back) lies) b.shifted_fronts in
-      let back = court_again d k.head.stance k.contents.back k.back b.backs k.of_back (second_holds (lies_on_board k.front) (lies_on_board k.back) lies) b.shifted_backs in
+      let lies = second_holds (fits_board k.head.placement.at) (lies_on_board k.front && lies_on_board k.back) k.placed in
+      let front = court_again d k.head.placement k.contents.front k.front b.fronts k.of_front (first_holds (lies_on_board k.front) (lies_on_board k.back) lies) b.shifted_fronts in
+      let back = court_again d k.head.placement k.contents.back k.back b.backs k.of_back (second_holds (lies_on_board k.front) (lies_on_board k.back) lies) b.shifted_backs in
       with_courts k.head k.contents k.front k.back now k.has_head k.has_contents a b front back few low

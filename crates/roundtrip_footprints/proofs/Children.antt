@@ -11,12 +11,12 @@ use Rattle.board_items.specs.declared.item.Item.{Item}
 use Rattle.board_items.specs.Boards.{PlainBoard, name_of}
 use Rattle.part_read.specs.declared.drawings.GraphicKind.{GraphicKind}
 use Rattle.part_read.specs.declared.drawings.GraphicKind.TheVariants.{Line, Rect, Circle, Outline}
-use Rattle.part_read.specs.declared.graphics.Ground.{Ground}
-use Rattle.part_read.specs.declared.graphics.Ground.TheVariants.{Copper, Outlines, Front, Back, Elsewhere}
-use Rattle.list_read.specs.Answers.{◌>>=◌}
-use Rattle.list_read.specs.Heads.{place, first_is, has_head}
-use Rattle.part_read.specs.Elements.{name_in}
-use Rattle.part_read.specs.Graphics.{ground_of, one_item, graphic_by, curve_by, text_by, note_of}
+use Rattle.part_read.specs.declared.graphics.LayerRole.{LayerRole}
+use Rattle.part_read.specs.declared.graphics.LayerRole.TheVariants.{Copper, Outlines, Front, Back, Elsewhere}
+use Rattle.list_read.specs.FirstRefusals.{◌>>=◌}
+use Rattle.list_read.specs.ListHeads.{place, first_is, has_head}
+use Rattle.part_read.specs.ElementResults.{name_in}
+use Rattle.part_read.specs.Graphics.{layer_role_of, one_item, graphic_by, curve_by, text_by, note_of}
 use Rattle.pad_read.specs.declared.head.Head.{Head}
 use Rattle.pad_read.specs.PadOf.{pad_of}
 use Rattle.footprint_read.specs.declared.sides.CourtSide.{CourtSide}
@@ -24,15 +24,15 @@ use Rattle.footprint_read.specs.declared.contents.Contents.{Contents}
 use Rattle.footprint_read.specs.Courtyards.{curve_side, graphic_side}
 use Rattle.footprint_read.specs.FootprintOf.{empty, given_at, giving, at_front, at_back, drawn_gives, arc_gives, drawn_kind, is_curve, is_writing, other_gives, kind_gives, child_gives, contents_then, children_give, items_of}
 use Rattle.footprint_read.proofs.Standing.{items_given, items_append}
-use Rattle.roundtrip_lists.specs.Alike.{Shift, Alike}
+use Rattle.roundtrip_lists.specs.Translated.{Shift, Translated}
 use Rattle.roundtrip_lists.specs.Agreeing.{Agrees, Same}
-use Rattle.roundtrip_lists.specs.Carried.{Becomes, of_unit, Leads, ReadsItems}
-use Rattle.roundtrip_lists.proofs.Elements.{heads_alike}
-use Rattle.roundtrip_lists.proofs.Numbers.{name_alike}
-use Rattle.roundtrip_lists.proofs.Graphics.{ground_alike, one_read, note_read, graphic_carried, curve_carried, text_carried}
-use Rattle.roundtrip_footprints.specs.Heads.{moved_head}
-use Rattle.roundtrip_footprints.specs.Places.{AtMoved}
-use Rattle.roundtrip_footprints.proofs.Standing.{moved_stances}
+use Rattle.roundtrip_lists.specs.Carried.{Becomes, of_unit, IfAccepted, ReadsItems}
+use Rattle.roundtrip_lists.proofs.Elements.{heads_translated}
+use Rattle.roundtrip_lists.proofs.Numbers.{name_translated}
+use Rattle.roundtrip_lists.proofs.Graphics.{layer_role_translated, one_read, note_read, graphic_carried, curve_carried, text_carried}
+use Rattle.roundtrip_footprints.specs.MovedHeads.{moved_head}
+use Rattle.roundtrip_footprints.specs.FootprintPlaces.{AtMoved}
+use Rattle.roundtrip_footprints.proofs.Standing.{moved_placements}
 use Rattle.roundtrip_footprints.proofs.Pads.{pad_carried}
 use Rattle.roundtrip_footprints.proofs.Finding.{other_head}
 use Rattle.roundtrip_footprints.proofs.Siding.{moved_side, SideMoved, graphic_moved, sides_moved}
@@ -103,7 +103,7 @@ module _ (d : Shift) (own : ℕ) where
   same_follow (Ok v) (Err e) f g h k = absurd h
   same_follow (Ok v) (Ok w) f g h k = subst (λ (z : _). Follows (f v) (g z)) (sym h) (k v)
 
-  items_follow : (t u : Tree) (answer other : Result (List Item) BoardError) → Leads (ReadsItems d own) answer other → Follows (giving t answer) (giving u other)
+  items_follow : (t u : Tree) (answer other : Result (List Item) BoardError) → IfAccepted (ReadsItems d own) answer other → Follows (giving t answer) (giving u other)
   items_follow t u (Err e) other h = tt
   items_follow t u (Ok items) other h = λ now become. record {
     contents = record empty { given = given_at (place u) (of_unit own now) };
@@ -129,29 +129,29 @@ module _ (d : Shift) (own : ℕ) where
     abbrev new_head : Head
     new_head = moved_head d head
 
-    module _ (i j : Forest) (s r : Span) (h : Alike None i j) where
+    module _ (i j : Forest) (s r : Span) (h : Translated None i j) where
       abbrev one : Tree
       one = branch s i
 
       abbrev two : Tree
       two = branch r j
 
-      same_ground : Agrees Same (ground_of board.copper one) (ground_of other.copper two)
-      same_ground = subst (λ c. Agrees Same (ground_of board.copper one) (ground_of c two)) (sym copper) (ground_alike None board.copper i j s r h)
+      same_ground : Agrees Same (layer_role_of board.copper one) (layer_role_of other.copper two)
+      same_ground = subst (λ c. Agrees Same (layer_role_of board.copper one) (layer_role_of c two)) (sym copper) (layer_role_translated None board.copper i j s r h)
 
-      graphics : (lies : Ground) (kind : GraphicKind) → Follows (giving one (graphic_by board unit head.stance kind one lies)) (giving two (graphic_by other own new_head.stance kind two lies))
+      graphics : (lies : LayerRole) (kind : GraphicKind) → Follows (giving one (graphic_by board unit head.placement kind one lies)) (giving two (graphic_by other own new_head.placement kind two lies))
       graphics lies kind =
-          items_follow one two (graphic_by board unit head.stance kind one lies) (graphic_by other own new_head.stance kind two lies)
-          (graphic_carried None d head.stance new_head.stance (moved_stances d head.stance) board other nets unit own kind i j s r h lies)
+          items_follow one two (graphic_by board unit head.placement kind one lies) (graphic_by other own new_head.placement kind two lies)
+          (graphic_carried None d head.placement new_head.placement (moved_placements d head.placement) board other nets unit own kind i j s r h lies)
 
-      drawn_step : (kind : GraphicKind) (lies : Ground) → Follows (drawn_gives board unit head kind one lies) (drawn_gives other own new_head kind two lies)
-      drawn_step kind Front = fronts (graphic_side head.stance kind one) (graphic_side new_head.stance kind two) (graphic_moved d head.stance kind one two h)
-      drawn_step kind Back = backs (graphic_side head.stance kind one) (graphic_side new_head.stance kind two) (graphic_moved d head.stance kind one two h)
+      drawn_step : (kind : GraphicKind) (lies : LayerRole) → Follows (drawn_gives board unit head kind one lies) (drawn_gives other own new_head kind two lies)
+      drawn_step kind Front = fronts (graphic_side head.placement kind one) (graphic_side new_head.placement kind two) (graphic_moved d head.placement kind one two h)
+      drawn_step kind Back = backs (graphic_side head.placement kind one) (graphic_side new_head.placement kind two) (graphic_moved d head.placement kind one two h)
       drawn_step kind (Copper layer) = graphics (Copper layer) kind
       drawn_step kind Outlines = graphics Outlines kind
       drawn_step kind Elsewhere = graphics Elsewhere kind
 
-      arc_step : (lies : Ground) → Follows (arc_gives one lies) (arc_gives two lies)
+      arc_step : (lies : LayerRole) → Follows (arc_gives one lies) (arc_gives two lies)
       arc_step Front = fronts (Ok curve_side) (Ok curve_side) refl
       arc_step Back = backs (Ok curve_side) (Ok curve_side) refl
       arc_step (Copper layer) = items_follow one two (curve_by one (Copper layer)) (curve_by two (Copper layer)) (curve_carried d own one two (Copper layer))
@@ -159,22 +159,22 @@ module _ (d : Shift) (own : ℕ) where
       arc_step Elsewhere = items_follow one two (curve_by one Elsewhere) (curve_by two Elsewhere) (curve_carried d own one two Elsewhere)
 
       head_same : (word : List ℕ) → has_head word two ≡ has_head word one
-      head_same word = sym (heads_alike None one two word h)
+      head_same word = sym (heads_translated None one two word h)
 
-      zone_note : Leads (ReadsItems d own) (Ok (note_of (name_in one) unit FootZone [] ∷ [])) (Ok (note_of (name_in two) own FootZone [] ∷ []))
-      zone_note = note_read d own unit FootZone (name_in one) [] (name_in two) [] (sym (name_alike None i j s r h)) refl
+      zone_note : IfAccepted (ReadsItems d own) (Ok (note_of (name_in one) unit FootZone [] ∷ [])) (Ok (note_of (name_in two) own FootZone [] ∷ []))
+      zone_note = note_read d own unit FootZone (name_in one) [] (name_in two) [] (sym (name_translated None i j s r h)) refl
 
       abbrev other_by : PlainBoard → ℕ → Bool → Bool → Bool → Tree → Result Contents BoardError
       other_by board unit curve writing zone t =
-          if curve then (ground_of board.copper t >>= arc_gives t)
-          else if writing then (ground_of board.copper t >>= λ lies. giving t (text_by unit Text t lies))
+          if curve then (layer_role_of board.copper t >>= arc_gives t)
+          else if writing then (layer_role_of board.copper t >>= λ lies. giving t (text_by unit Text t lies))
           else if zone then giving t (Ok (note_of (name_in t) unit FootZone [] ∷ []))
           else Ok empty
 
       by_heads : (curve writing zone : Bool) → Follows (other_by board unit curve writing zone one) (other_by other own curve writing zone two)
-      by_heads true writing zone = same_follow (ground_of board.copper one) (ground_of other.copper two) (arc_gives one) (arc_gives two) same_ground arc_step
+      by_heads true writing zone = same_follow (layer_role_of board.copper one) (layer_role_of other.copper two) (arc_gives one) (arc_gives two) same_ground arc_step
       by_heads false true zone =
-          same_follow (ground_of board.copper one) (ground_of other.copper two) (λ lies. giving one (text_by unit Text one lies)) (λ lies. giving two (text_by own Text two lies)) same_ground
+          same_follow (layer_role_of board.copper one) (layer_role_of other.copper two) (λ lies. giving one (text_by unit Text one lies)) (λ lies. giving two (text_by own Text two lies)) same_ground
           (λ lies. items_follow one two (text_by unit Text one lies) (text_by own Text two lies) (text_carried None d own unit Text i j s r lies h))
       by_heads false false true = items_follow one two (Ok (note_of (name_in one) unit FootZone [] ∷ [])) (Ok (note_of (name_in two) own FootZone [] ∷ [])) zone_note
       by_heads false false false = nothing
@@ -197,7 +197,7 @@ module _ (d : Shift) (own : ℕ) where
 
       kind_step : (o : Option GraphicKind) → Follows (kind_gives board unit head one o) (kind_gives other own new_head two o)
       kind_step None = other_step
-      kind_step (Some kind) = same_follow (ground_of board.copper one) (ground_of other.copper two) (drawn_gives board unit head kind one) (drawn_gives other own new_head kind two) same_ground (drawn_step kind)
+      kind_step (Some kind) = same_follow (layer_role_of board.copper one) (layer_role_of other.copper two) (drawn_gives board unit head kind one) (drawn_gives other own new_head kind two) same_ground (drawn_step kind)
 
       kind_same : drawn_kind two ≡ drawn_kind one
       kind_same =
@@ -263,7 +263,7 @@ module _ (d : Shift) (own : ℕ) where
         → Follows (children_give board unit head (t ∷ ts)) (children_give other own new_head (u ∷ us))
     first_and t u ts us h k = both_follow (child_gives board unit head t) (child_gives other own new_head u) (children_give board unit head ts) (children_give other own new_head us) h k
 
-    plain_steps : (f g : Forest) → Alike None f g → Follows (children_give board unit head (trees f)) (children_give other own new_head (trees g))
+    plain_steps : (f g : Forest) → Translated None f g → Follows (children_give board unit head (trees f)) (children_give other own new_head (trees g))
     plain_steps none none h = nothing
     plain_steps none (atom t r e rest) h = absurd h
     plain_steps none (list t within rest) h = absurd h
@@ -284,4 +284,4 @@ module _ (d : Shift) (own : ℕ) where
     all_steps (list s i others) (atom t r e rest) h = absurd h
     all_steps (atom s q x others) (atom t r e rest) h = first_and (leaf s q x) (leaf t r e) (trees others) (trees rest) (atom_step s t q r x e) (all_steps others rest h.2)
     all_steps (list s i others) (list t j rest) (inl (place, more)) = first_and (branch s i) (branch t j) (trees others) (trees rest) (place_step s t i j place.first place.second) (plain_steps others rest more)
-    all_steps (list s i others) (list t j rest) (inr (plain, alike, more)) = first_and (branch s i) (branch t j) (trees others) (trees rest) (list_step i j s t alike) (all_steps others rest more)
+    all_steps (list s i others) (list t j rest) (inr (plain, translated, more)) = first_and (branch s i) (branch t j) (trees others) (trees rest) (list_step i j s t translated) (all_steps others rest more)

@@ -11,9 +11,9 @@ use Rattle.geo_seg.specs.declared.shapes.Shape.{Shape}
 use Rattle.geo_seg.specs.Shifts.{IsShiftedPoint, IsShiftedCore}
 use Rattle.copper_layers.specs.declared.set.LayerSet.{LayerSet}
 use Rattle.board_items.specs.declared.parts.Part.{Part}
-use Rattle.board_items.specs.Moves.{AreShifted, IsShiftedPart}
-use Rattle.part_read.specs.declared.numbers.Spot.{Spot}
-use Rattle.part_read.specs.declared.stances.Stance.{Stance}
+use Rattle.board_items.specs.ItemMoves.{AreShifted, IsShiftedPart}
+use Rattle.part_read.specs.declared.numbers.RawPoint.{RawPoint}
+use Rattle.part_read.specs.declared.placements.Placement.{Placement}
 use Rattle.part_read.specs.declared.radii.Radius.{Radius}
 use Rattle.part_read.specs.declared.figures.Figure.{Figure}
 use Rattle.part_read.specs.declared.figures.Figure.TheVariants.{Line, Rect, Circle, Outline}
@@ -23,8 +23,8 @@ use Rattle.part_read.specs.OnBoard.{tested, fits_board, point_at}
 use Rattle.part_read.specs.Figures.{no_radius, radius_of, radius_with, around, parts_around, cores_of, drawn}
 use Rattle.part_read.proofs.There.{some_same, both_some}
 use Rattle.part_read.proofs.Shapes.{one_point, one_shape, is_tested}
-use Rattle.courtyard.specs.Ends.{place as spot_of_point, is_same, is_short}
-use Rattle.roundtrip_lists.specs.Moves.{IsShiftedSeg, AreShiftedSegs, HasPoint, HasCorner}
+use Rattle.courtyard.specs.Ends.{place as raw_point_of_point, is_same, is_short}
+use Rattle.roundtrip_lists.specs.ListMoves.{IsShiftedSeg, AreShiftedSegs, HasPoint, HasCorner}
 use Rattle.roundtrip_lists.proofs.CourtMoving.{beyond, same_moved, chained_moved}
 use Rattle.roundtrip_lists.proofs.Cornering.{has_corner}
 use Rattle.footprint_read.specs.declared.sides.CourtSide.{CourtSide}
@@ -32,15 +32,15 @@ use Rattle.footprint_read.specs.declared.sides.Course.{Course}
 use Rattle.footprint_read.specs.declared.courts.Court.{Court}
 use Rattle.footprint_read.specs.declared.courts.Court.TheVariants.{Unchecked, Parts, Off}
 use Rattle.footprint_read.specs.Courtyards.{at, is_long, ends_at, many_at, is_met, is_closed, line_to, seg_of, segs_of, figure_parts, outline_part, HasParts, IsCourt, parts_in, lies_on_board}
-use Rattle.roundtrip_lists.specs.Alike.{Shift}
-use Rattle.roundtrip_lists.specs.Moved.{moved_spot}
-use Rattle.roundtrip_lists.specs.Standing.{StandsMoved}
+use Rattle.roundtrip_lists.specs.Translated.{Shift}
+use Rattle.roundtrip_lists.specs.Moved.{moved_raw_point}
+use Rattle.roundtrip_lists.specs.FigurePositions.{StandsMoved}
 use Rattle.roundtrip_lists.proofs.Figures.{tested_some, line_carried, filled_carried, parts_carried}
 use Rattle.roundtrip_lists.proofs.Shapes.{half_near, fits_moved}
 use Rattle.roundtrip_lists.proofs.Cores.{box_carried, open_carried}
-use Rattle.roundtrip_footprints.specs.Heads.{moved_stance}
+use Rattle.roundtrip_footprints.specs.MovedHeads.{moved_placement}
 use Rattle.roundtrip_footprints.proofs.Placing.{split}
-use Rattle.roundtrip_footprints.proofs.Standing.{moved_stances}
+use Rattle.roundtrip_footprints.proofs.Standing.{moved_placements}
 use Rattle.roundtrip_footprints.proofs.Siding.{moved_course, moved_side}
 
 abbrev no_layers : LayerSet
@@ -54,8 +54,8 @@ module _ (d : Shift) where
 
   ends_moved : (k : ℤ × ℤ) (line : Course) → ends_at (beyond d.dx d.dy k) (moved_course d line) ≡ ends_at k line
   ends_moved k line =
-      ap (λ (b : Bool). by_ends b (is_same (at (moved_spot d line.a)) (beyond d.dx d.dy k)) (is_same (at (moved_spot d line.b)) (beyond d.dx d.dy k))) (long_moved line)
-      ∙ ap (λ (b : Bool). by_ends (is_long line) b (is_same (at (moved_spot d line.b)) (beyond d.dx d.dy k))) (same_moved d.dx d.dy (at line.a) k)
+      ap (λ (b : Bool). by_ends b (is_same (at (moved_raw_point d line.a)) (beyond d.dx d.dy k)) (is_same (at (moved_raw_point d line.b)) (beyond d.dx d.dy k))) (long_moved line)
+      ∙ ap (λ (b : Bool). by_ends (is_long line) b (is_same (at (moved_raw_point d line.b)) (beyond d.dx d.dy k))) (same_moved d.dx d.dy (at line.a) k)
       ∙ ap (λ (b : Bool). by_ends (is_long line) (is_same (at line.a) k) b) (same_moved d.dx d.dy (at line.b) k)
     where
       by_ends : Bool → Bool → Bool → ℕ
@@ -68,8 +68,8 @@ module _ (d : Shift) where
 
   met_moved : (lines : List Course) (line : Course) → is_met (map (moved_course d) lines) (moved_course d line) ≡ is_met lines line
   met_moved lines line =
-      ap (λ (b : Bool). not b || (many_at (at (moved_spot d line.a)) (map (moved_course d) lines) == 2 && many_at (at (moved_spot d line.b)) (map (moved_course d) lines) == 2)) (long_moved line)
-      ∙ ap (λ (n : ℕ). not (is_long line) || (n == 2 && many_at (at (moved_spot d line.b)) (map (moved_course d) lines) == 2)) (many_moved (at line.a) lines)
+      ap (λ (b : Bool). not b || (many_at (at (moved_raw_point d line.a)) (map (moved_course d) lines) == 2 && many_at (at (moved_raw_point d line.b)) (map (moved_course d) lines) == 2)) (long_moved line)
+      ∙ ap (λ (n : ℕ). not (is_long line) || (n == 2 && many_at (at (moved_raw_point d line.b)) (map (moved_course d) lines) == 2)) (many_moved (at line.a) lines)
       ∙ ap (λ (n : ℕ). not (is_long line) || (many_at (at line.a) lines == 2 && n == 2)) (many_moved (at line.b) lines)
 
   all_met : (lines some : List Course) → list_all (is_met (map (moved_course d) lines)) (map (moved_course d) some) ≡ list_all (is_met lines) some
@@ -88,27 +88,27 @@ module _ (d : Shift) where
   abbrev ddy : ℤ
   ddy = pos 2 *ℤ d.dy
 
-  module _ (stance : Stance) where
-    abbrev new : Stance
-    new = moved_stance d stance
+  module _ (placement : Placement) where
+    abbrev new : Placement
+    new = moved_placement d placement
 
-    stands : (s : Spot) → StandsMoved d stance new s s
-    stands s = (moved_stances d stance).stands s s refl
+    stands : (s : RawPoint) → StandsMoved d placement new s s
+    stands s = (moved_placements d placement).stands s s refl
 
-    all_stand : (spots : List Spot) → AllZip (StandsMoved d stance new) spots spots
+    all_stand : (raw_points : List RawPoint) → AllZip (StandsMoved d placement new) raw_points raw_points
     all_stand [] = tt
-    all_stand (s ∷ spots) = (stands s, all_stand spots)
+    all_stand (s ∷ raw_points) = (stands s, all_stand raw_points)
 
-    cores_again : (filled : Bool) (figure : Figure) (cores others : List Core) → cores_of stance filled figure ≡ Some cores → AllZip (IsShiftedCore ddx ddy) cores others → cores_of new filled figure ≡ Some others
-    cores_again filled (Line a b) cores others some h = line_carried d stance new a b a b cores others (stands a) (stands b) some h
-    cores_again filled (Rect a b) cores others some h = box_carried d stance new filled a b a b cores others (stands a) (stands b) some h
-    cores_again filled (Circle c r) cores others some h = line_carried d stance new c c c c cores others (stands c) (stands c) some h
-    cores_again true (Outline spots) cores others some h = filled_carried d stance new spots spots cores others (all_stand spots) some h
-    cores_again false (Outline spots) cores others some h = open_carried d stance new spots spots cores others (all_stand spots) some h
+    cores_again : (filled : Bool) (figure : Figure) (cores others : List Core) → cores_of placement filled figure ≡ Some cores → AllZip (IsShiftedCore ddx ddy) cores others → cores_of new filled figure ≡ Some others
+    cores_again filled (Line a b) cores others some h = line_carried d placement new a b a b cores others (stands a) (stands b) some h
+    cores_again filled (Rect a b) cores others some h = box_carried d placement new filled a b a b cores others (stands a) (stands b) some h
+    cores_again filled (Circle c r) cores others some h = line_carried d placement new c c c c cores others (stands c) (stands c) some h
+    cores_again true (Outline raw_points) cores others some h = filled_carried d placement new raw_points raw_points cores others (all_stand raw_points) some h
+    cores_again false (Outline raw_points) cores others some h = open_carried d placement new raw_points raw_points cores others (all_stand raw_points) some h
 
-    drawn_again : (x : Drawing) (parts others : List Part) → drawn no_layers stance x ≡ Some parts → AreShifted ddx ddy parts others → drawn no_layers new x ≡ Some others
+    drawn_again : (x : Drawing) (parts others : List Part) → drawn no_layers placement x ≡ Some parts → AreShifted ddx ddy parts others → drawn no_layers new x ≡ Some others
     drawn_again x parts others some h =
-        let k = both_some (parts_around no_layers) (radius_of (radius_with x.width x.figure)) (cores_of stance x.filled x.figure) parts some in
+        let k = both_some (parts_around no_layers) (radius_of (radius_with x.width x.figure)) (cores_of placement x.filled x.figure) parts some in
         let c = parts_carried ddx ddy no_layers k.0 k.1 others (subst (λ (l : List Part). AreShifted ddx ddy l others) k.4 h) in
         ap (λ (r : Option Radius). both (parts_around no_layers) r (cores_of new x.filled x.figure)) k.2
         ∙ ap (λ (o : Option (List Core)). both (parts_around no_layers) (Some k.0) o) (cores_again x.filled x.figure k.1 c.0 k.3 c.1)
@@ -119,10 +119,10 @@ module _ (d : Shift) where
     nothing_more [] (o ∷ others) e h = absurd h
     nothing_more (p ∷ parts) others e h = absurd cc
 
-    figures_again : (drawings : List Drawing) (parts others : List Part) → figure_parts stance drawings ≡ Some parts → AreShifted ddx ddy parts others → figure_parts new drawings ≡ Some others
+    figures_again : (drawings : List Drawing) (parts others : List Part) → figure_parts placement drawings ≡ Some parts → AreShifted ddx ddy parts others → figure_parts new drawings ≡ Some others
     figures_again [] parts others some h = nothing_more parts others (some_same some) h
     figures_again (x ∷ drawings) parts others some h =
-        let k = both_some (λ (ps qs : List Part). ps ++ qs) (drawn no_layers stance x) (figure_parts stance drawings) parts some in
+        let k = both_some (λ (ps qs : List Part). ps ++ qs) (drawn no_layers placement x) (figure_parts placement drawings) parts some in
         let m = split d k.0 k.1 others (subst (λ (l : List Part). AreShifted ddx ddy l others) k.4 h) in
         ap (λ (o : Option (List Part)). both (λ (ps qs : List Part). ps ++ qs) o (figure_parts new drawings)) (drawn_again x k.0 m.us k.2 m.first)
         ∙ ap (after m.us) (figures_again drawings k.1 m.vs k.3 m.rest)
@@ -177,9 +177,9 @@ module _ (d : Shift) where
   -- both ends of each of the lines stay
   abbrev EndsStay : List Seg → Type 0
   EndsStay [] = Unit {0}
-  EndsStay (l ∷ ls) = (is_short l ≡ false → StaysThere (spot_of_point l.a) × StaysThere (spot_of_point l.b)) × EndsStay ls
+  EndsStay (l ∷ ls) = (is_short l ≡ false → StaysThere (raw_point_of_point l.a) × StaysThere (raw_point_of_point l.b)) × EndsStay ls
 
-  each_end : (segs : List Seg) → ((i : ℕ) (l : Seg) → slice_get segs i ≡ Some l → is_short l ≡ false → StaysThere (spot_of_point l.a) × StaysThere (spot_of_point l.b)) → EndsStay segs
+  each_end : (segs : List Seg) → ((i : ℕ) (l : Seg) → slice_get segs i ≡ Some l → is_short l ≡ false → StaysThere (raw_point_of_point l.a) × StaysThere (raw_point_of_point l.b)) → EndsStay segs
   each_end [] h = tt
   each_end (l ∷ segs) h = (h 0 l refl, each_end segs (λ i m e. h (suc i) m e))
 
@@ -196,21 +196,21 @@ module _ (d : Shift) where
       is_false false e = refl
 
   -- the point of a spot of which the moved one stays
-  record PointAgain (s : Spot) (p : Point) : Type 0 where
+  record PointAgain (s : RawPoint) (p : Point) : Type 0 where
     point : Point
-    there : tested (fits_board (moved_spot d s)) (point_at (moved_spot d s)) ≡ Some point
+    there : tested (fits_board (moved_raw_point d s)) (point_at (moved_raw_point d s)) ≡ Some point
     shifted : IsShiftedPoint ddx ddy p point
 
   twice : (p z w : ℤ) → p ≡ (pos 2 *ℤ z) +ℤ (pos 2 *ℤ w) → p ≡ pos 2 *ℤ (z +ℤ w)
   twice p z w e = omega (arith, ints, e)
 
-  point_again : (s : Spot) (fits : fits_board s ≡ true) → StaysThere (spot_of_point (point_at s fits)) → PointAgain s (point_at s fits)
+  point_again : (s : RawPoint) (fits : fits_board s ≡ true) → StaysThere (raw_point_of_point (point_at s fits)) → PointAgain s (point_at s fits)
   point_again s fits k =
       let near_x = half_near k.point.x s.x d.dx k.point.x_in_range k.x in
       let near_y = half_near k.point.y s.y d.dy k.point.y_in_range k.y in
       record {
         point = k.point;
-        there = sym (is_tested (fits_board (moved_spot d s)) (point_at (moved_spot d s)) k.point (λ fit. one_point k.point (point_at (moved_spot d s) fit) (twice k.point.x s.x d.dx k.x) (twice k.point.y s.y d.dy k.y)) (fits_moved (moved_spot d s) near_x near_y));
+        there = sym (is_tested (fits_board (moved_raw_point d s)) (point_at (moved_raw_point d s)) k.point (λ fit. one_point k.point (point_at (moved_raw_point d s) fit) (twice k.point.x s.x d.dx k.x) (twice k.point.y s.y d.dy k.y)) (fits_moved (moved_raw_point d s) near_x near_y));
         shifted = record { x = k.x; y = k.y };
       }
 
@@ -230,19 +230,19 @@ module _ (d : Shift) where
         is = ap (λ (p : Point). let s : Seg = record { a = p; b = point_at line.b b.0 } in s) a.1 ∙ ap (λ (p : Point). let s : Seg = record { a = k.0; b = p } in s) b.1 ∙ sym k.4;
       }
 
-  seg_again : (line : Course) (seg : Seg) → is_long line ≡ true → seg_of line ≡ Some seg → (is_short seg ≡ false → StaysThere (spot_of_point seg.a) × StaysThere (spot_of_point seg.b)) → (other : Seg) × (seg_of (moved_course d line) ≡ Some other) × IsShiftedSeg ddx ddy seg other
+  seg_again : (line : Course) (seg : Seg) → is_long line ≡ true → seg_of line ≡ Some seg → (is_short seg ≡ false → StaysThere (raw_point_of_point seg.a) × StaysThere (raw_point_of_point seg.b)) → (other : Seg) × (seg_of (moved_course d line) ≡ Some other) × IsShiftedSeg ddx ddy seg other
   seg_again line seg long some stays =
       let k = seg_made line seg some in
       by_made k.fits_a k.fits_b k.is
     where
       by_made : (fa : fits_board line.a ≡ true) (fb : fits_board line.b ≡ true) → record { a = point_at line.a fa; b = point_at line.b fb } ≡ seg → (other : Seg) × (seg_of (moved_course d line) ≡ Some other) × IsShiftedSeg ddx ddy seg other
       by_made fa fb is =
-          let here : StaysThere (spot_of_point (point_at line.a fa)) × StaysThere (spot_of_point (point_at line.b fb)) =
-          subst (λ (s : Seg). is_short s ≡ false → StaysThere (spot_of_point s.a) × StaysThere (spot_of_point s.b)) (sym is) stays (not_short line fa fb long) in
+          let here : StaysThere (raw_point_of_point (point_at line.a fa)) × StaysThere (raw_point_of_point (point_at line.b fb)) =
+          subst (λ (s : Seg). is_short s ≡ false → StaysThere (raw_point_of_point s.a) × StaysThere (raw_point_of_point s.b)) (sym is) stays (not_short line fa fb long) in
           let a = point_again line.a fa here.0 in
           let b = point_again line.b fb here.1 in (
             record { a = a.point; b = b.point },
-            ap (λ (o : Option Point). both line_to o (tested (fits_board (moved_spot d line.b)) (point_at (moved_spot d line.b)))) a.there ∙ ap (λ (o : Option Point). both line_to (Some a.point) o) b.there,
+            ap (λ (o : Option Point). both line_to o (tested (fits_board (moved_raw_point d line.b)) (point_at (moved_raw_point d line.b)))) a.there ∙ ap (λ (o : Option Point). both line_to (Some a.point) o) b.there,
             subst (λ (s : Seg). IsShiftedSeg ddx ddy s (record { a = a.point; b = b.point })) is (a.shifted, b.shifted),
           )
 
@@ -279,17 +279,17 @@ module _ (d : Shift) where
 
   -- ---- courtyards
 
-  parts_again : (stance : Stance) (side : CourtSide) (parts others : List Part) → HasParts stance side parts → AreShifted ddx ddy parts others → HasParts (moved_stance d stance) (moved_side d side) others
-  parts_again stance side parts others has h =
+  parts_again : (placement : Placement) (side : CourtSide) (parts others : List Part) → HasParts placement side parts → AreShifted ddx ddy parts others → HasParts (moved_placement d placement) (moved_side d side) others
+  parts_again placement side parts others has h =
       let k = split d has.drawn (map outline_part has.polys) others (subst (λ (l : List Part). AreShifted ddx ddy l others) has.all h) in
       let m = outlines_of has.polys k.vs k.rest in
-      let stays = each_end has.segs (λ i l there long. (corner_stays has.polys m.moved (spot_of_point l.a) m.zip (has_corner has.segs has.polys has.chained i l there long false), corner_stays has.polys m.moved (spot_of_point l.b) m.zip (has_corner has.segs has.polys has.chained i l there long true))) in
+      let stays = each_end has.segs (λ i l there long. (corner_stays has.polys m.moved (raw_point_of_point l.a) m.zip (has_corner has.segs has.polys has.chained i l there long false), corner_stays has.polys m.moved (raw_point_of_point l.b) m.zip (has_corner has.segs has.polys has.chained i l there long true))) in
       let s = segs_again side.lines has.segs has.of_lines stays in
       record {
         drawn = k.us;
         segs = s.others;
         polys = m.moved;
-        of_figures = figures_again stance side.drawings has.drawn k.us has.of_figures k.first;
+        of_figures = figures_again placement side.drawings has.drawn k.us has.of_figures k.first;
         of_lines = s.there;
         chained = chained_moved ddx ddy has.segs s.others has.polys m.moved s.shifted has.chained m.zip;
         all = k.are ∙ ap (λ (l : List Part). k.us ++ l) (sym m.are);
@@ -301,8 +301,8 @@ module _ (d : Shift) where
   court_with (Parts parts) others = Parts others
   court_with Off others = Off
 
-  pub record CourtAgain (stance : Stance) (side : CourtSide) (court : Court) (others : List Part) : Type 0 where
-    pub is : IsCourt (moved_stance d stance) (moved_side d side) (court_with court others)
+  pub record CourtAgain (placement : Placement) (side : CourtSide) (court : Court) (others : List Part) : Type 0 where
+    pub is : IsCourt (moved_placement d placement) (moved_side d side) (court_with court others)
     pub parts : parts_in (court_with court others) ≡ others
     pub lies : lies_on_board (court_with court others) ≡ true
 
@@ -310,8 +310,8 @@ module _ (d : Shift) where
   none_left [] h = refl
   none_left (o ∷ others) h = absurd h
 
-  pub court_again : (stance : Stance) (side : CourtSide) (court : Court) (others : List Part) → IsCourt stance side court → lies_on_board court ≡ true → AreShifted ddx ddy (parts_in court) others → CourtAgain stance side court others
-  court_again stance side Unchecked others (inl curved) lies h = record { is = inl curved; parts = none_left others h; lies = refl }
-  court_again stance side Unchecked others (inr loose) lies h = record { is = inr (closed_same side.lines ∙ loose); parts = none_left others h; lies = refl }
-  court_again stance side (Parts parts) others (checked, has) lies h = record { is = ((checked.0, closed_same side.lines ∙ checked.1), parts_again stance side parts others has h); parts = refl; lies = refl }
-  court_again stance side Off others is lies h = absurd cc
+  pub court_again : (placement : Placement) (side : CourtSide) (court : Court) (others : List Part) → IsCourt placement side court → lies_on_board court ≡ true → AreShifted ddx ddy (parts_in court) others → CourtAgain placement side court others
+  court_again placement side Unchecked others (inl curved) lies h = record { is = inl curved; parts = none_left others h; lies = refl }
+  court_again placement side Unchecked others (inr loose) lies h = record { is = inr (closed_same side.lines ∙ loose); parts = none_left others h; lies = refl }
+  court_again placement side (Parts parts) others (checked, has) lies h = record { is = ((checked.0, closed_same side.lines ∙ checked.1), parts_again placement side parts others has h); parts = refl; lies = refl }
+  court_again placement side Off others is lies h = absurd cc

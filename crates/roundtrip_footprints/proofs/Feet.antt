@@ -10,15 +10,15 @@ use Rattle.board_errors.specs.declared.errors.BoardError.TheVariants.{OutOfBoard
 use Rattle.board_items.specs.declared.item.About.TheVariants.{Text, Courtyard, FootZone}
 use Rattle.board_items.specs.declared.item.Item.{Item}
 use Rattle.board_items.specs.Boards.{PlainBoard}
-use Rattle.board_items.specs.Refusals.{room_of}
+use Rattle.board_items.specs.ItemRefusals.{capacity_of}
 use Rattle.part_read.specs.declared.drawings.GraphicKind.{GraphicKind}
-use Rattle.part_read.specs.declared.graphics.Ground.{Ground}
-use Rattle.part_read.specs.declared.graphics.Ground.TheVariants.{Copper, Outlines, Front, Back, Elsewhere}
-use Rattle.list_read.specs.Answers.{◌>>=◌, check}
-use Rattle.list_read.specs.Heads.{place, has_head}
-use Rattle.part_read.specs.Elements.{name_in}
-use Rattle.part_read.specs.Graphics.{ground_of, one_item, graphic_by, curve_by, text_by, note_of}
-use Rattle.part_read.specs.Room.{has_room_after}
+use Rattle.part_read.specs.declared.graphics.LayerRole.{LayerRole}
+use Rattle.part_read.specs.declared.graphics.LayerRole.TheVariants.{Copper, Outlines, Front, Back, Elsewhere}
+use Rattle.list_read.specs.FirstRefusals.{◌>>=◌, check}
+use Rattle.list_read.specs.ListHeads.{place, has_head}
+use Rattle.part_read.specs.ElementResults.{name_in}
+use Rattle.part_read.specs.Graphics.{layer_role_of, one_item, graphic_by, curve_by, text_by, note_of}
+use Rattle.part_read.specs.Capacity.{has_capacity_after}
 use Rattle.part_read.proofs.Reach.{both_ok}
 use Rattle.pad_read.specs.declared.head.Head.{Head}
 use Rattle.pad_read.specs.PadOf.{pad_of}
@@ -29,7 +29,7 @@ use Rattle.footprint_read.specs.declared.courts.Court.TheVariants.{Unchecked, Pa
 use Rattle.footprint_read.specs.Courtyards.{graphic_side, IsCourt}
 use Rattle.footprint_read.specs.FootHead.{head_of}
 use Rattle.footprint_read.specs.declared.contents.Given.{Given}
-use Rattle.footprint_read.specs.FootprintOf.{empty, given_at, giving, at_front, at_back, drawn_gives, arc_gives, drawn_kind, is_curve, is_writing, other_gives, kind_gives, child_gives, contents_then, children_give, body_of, court_notes, all_given, items_of, with_room, is_placed, finished, contents_of, SaysInside, SaysWithHead, FootprintSays}
+use Rattle.footprint_read.specs.FootprintOf.{empty, given_at, giving, at_front, at_back, drawn_gives, arc_gives, drawn_kind, is_curve, is_writing, other_gives, kind_gives, child_gives, contents_then, children_give, body_of, court_notes, all_given, items_of, with_reserved, is_placed, finished, contents_of, SaysInside, SaysWithHead, FootprintSays}
 use Rattle.footprint_read.proofs.Standing.{items_given, items_append, placed_fits}
 use Rattle.roundtrip_lists.specs.Carried.{ItemsOf}
 use Rattle.roundtrip_lists.proofs.Placed.{same_ok, one_item_of, graphic_of, note_stands, text_of_unit, curve_of_unit}
@@ -44,10 +44,10 @@ pub record FootSays (board : PlainBoard) (unit : ℕ) (tree : Tree) (items : Lis
   pub back : Court
   pub has_head : head_of board.copper tree ≡ Ok head
   pub has_contents : contents_of board unit head tree ≡ Ok contents
-  pub of_front : IsCourt head.stance contents.front front
-  pub of_back : IsCourt head.stance contents.back back
+  pub of_front : IsCourt head.placement contents.front front
+  pub of_back : IsCourt head.placement contents.back back
   pub placed : is_placed head front back ≡ true
-  pub room : with_room board unit 0 (all_given unit head tree contents.given front back) ≡ Ok tt
+  pub capacity : with_reserved board unit 0 (all_given unit head tree contents.given front back) ≡ Ok tt
   pub are : items_of (all_given unit head tree contents.given front back) ≡ items
 
 no_items : {e : BoardError} {items : List Item} → (let r : Result (List Item) BoardError = Ok items in r) ≡ Err e → ⊥
@@ -58,11 +58,11 @@ check_holds e true u h = refl
 check_holds e false u h = absurd cc
 
 finished_says : (board : PlainBoard) (unit : ℕ) (tree : Tree) (head : Head) (contents : Contents) (front back : Court) (items : List Item) → head_of board.copper tree ≡ Ok head → contents_of board unit head tree ≡ Ok contents
-    → IsCourt head.stance contents.front front → IsCourt head.stance contents.back back → finished board unit head tree contents.given front back ≡ Ok items → FootSays board unit tree items
+    → IsCourt head.placement contents.front front → IsCourt head.placement contents.back back → finished board unit head tree contents.given front back ≡ Ok items → FootSays board unit tree items
 unfolding finished
 finished_says board unit tree head contents front back items eh ec of_front of_back h =
     let a = both_ok (check (OutOfBoard (place tree)) (is_placed head front back)) _ items h in
-    let b = both_ok (with_room board unit 0 (all_given unit head tree contents.given front back)) _ items a.1.1 in
+    let b = both_ok (with_reserved board unit 0 (all_given unit head tree contents.given front back)) _ items a.1.1 in
     record {
       head = head;
       contents = contents;
@@ -73,7 +73,7 @@ finished_says board unit tree head contents front back items eh ec of_front of_b
       of_front = of_front;
       of_back = of_back;
       placed = check_holds (OutOfBoard (place tree)) (is_placed head front back) a.0 a.1.0;
-      room = b.1.0;
+      capacity = b.1.0;
       are = same_ok b.1.1;
     }
 
@@ -129,9 +129,9 @@ module _ (unit : ℕ) where
   back_stands (Err e) = tt
   back_stands (Ok side) = tt
 
-  ground_stands : (a : Result Ground BoardError) (f : Ground → Result Contents BoardError) → ((lies : Ground) → Stand (f lies)) → Stand (a >>= f)
-  ground_stands (Err e) f h = tt
-  ground_stands (Ok lies) f h = h lies
+  layer_role_stands : (a : Result LayerRole BoardError) (f : LayerRole → Result Contents BoardError) → ((lies : LayerRole) → Stand (f lies)) → Stand (a >>= f)
+  layer_role_stands (Err e) f h = tt
+  layer_role_stands (Ok lies) f h = h lies
 
   then_stands : (a b : Result Contents BoardError) → Stand a → Stand b → Stand (a >>= λ first. b >>= λ more. Ok (contents_then first more))
   then_stands (Err e) b h k = tt
@@ -139,14 +139,14 @@ module _ (unit : ℕ) where
   then_stands (Ok x) (Ok y) h k = subst (λ (l : List Item). ItemsOf unit l) (sym (items_append x.given y.given)) (both_stand unit (items_of x.given) (items_of y.given) h k)
 
   module _ (board : PlainBoard) (head : Head) where
-    drawn_stands : (kind : GraphicKind) (t : Tree) (lies : Ground) → Stand (drawn_gives board unit head kind t lies)
-    drawn_stands kind t Front = front_stands (graphic_side head.stance kind t)
-    drawn_stands kind t Back = back_stands (graphic_side head.stance kind t)
-    drawn_stands kind t (Copper layer) = giving_stands t (graphic_by board unit head.stance kind t (Copper layer)) (λ items e. graphic_of board unit head.stance kind t (Copper layer) items e)
-    drawn_stands kind t Outlines = giving_stands t (graphic_by board unit head.stance kind t Outlines) (λ items e. graphic_of board unit head.stance kind t Outlines items e)
-    drawn_stands kind t Elsewhere = giving_stands t (graphic_by board unit head.stance kind t Elsewhere) (λ items e. graphic_of board unit head.stance kind t Elsewhere items e)
+    drawn_stands : (kind : GraphicKind) (t : Tree) (lies : LayerRole) → Stand (drawn_gives board unit head kind t lies)
+    drawn_stands kind t Front = front_stands (graphic_side head.placement kind t)
+    drawn_stands kind t Back = back_stands (graphic_side head.placement kind t)
+    drawn_stands kind t (Copper layer) = giving_stands t (graphic_by board unit head.placement kind t (Copper layer)) (λ items e. graphic_of board unit head.placement kind t (Copper layer) items e)
+    drawn_stands kind t Outlines = giving_stands t (graphic_by board unit head.placement kind t Outlines) (λ items e. graphic_of board unit head.placement kind t Outlines items e)
+    drawn_stands kind t Elsewhere = giving_stands t (graphic_by board unit head.placement kind t Elsewhere) (λ items e. graphic_of board unit head.placement kind t Elsewhere items e)
 
-    arc_stands : (t : Tree) (lies : Ground) → Stand (arc_gives t lies)
+    arc_stands : (t : Tree) (lies : LayerRole) → Stand (arc_gives t lies)
     arc_stands t Front = tt
     arc_stands t Back = tt
     arc_stands t (Copper layer) = giving_stands t (curve_by t (Copper layer)) (λ items e. curve_of_unit unit t (Copper layer) items e)
@@ -157,17 +157,17 @@ module _ (unit : ℕ) where
     other_stands t = by_heads (is_curve t) (is_writing t) (has_head (codes "zone") t)
       where
         by_heads : (curve writing zone : Bool)
-            → Stand (if curve then (ground_of board.copper t >>= arc_gives t) else if writing then (ground_of board.copper t >>= λ lies. giving t (text_by unit Text t lies)) else if zone then giving t (Ok (note_of (name_in t) unit FootZone [] ∷ [])) else Ok empty)
-        by_heads true writing zone = ground_stands (ground_of board.copper t) (arc_gives t) (arc_stands t)
+            → Stand (if curve then (layer_role_of board.copper t >>= arc_gives t) else if writing then (layer_role_of board.copper t >>= λ lies. giving t (text_by unit Text t lies)) else if zone then giving t (Ok (note_of (name_in t) unit FootZone [] ∷ [])) else Ok empty)
+        by_heads true writing zone = layer_role_stands (layer_role_of board.copper t) (arc_gives t) (arc_stands t)
         by_heads false true zone =
-            ground_stands (ground_of board.copper t) (λ lies. giving t (text_by unit Text t lies)) (λ lies. giving_stands t (text_by unit Text t lies) (λ items e. text_of_unit unit Text t lies items e))
+            layer_role_stands (layer_role_of board.copper t) (λ lies. giving t (text_by unit Text t lies)) (λ lies. giving_stands t (text_by unit Text t lies) (λ items e. text_of_unit unit Text t lies items e))
         by_heads false false true =
             giving_stands t (Ok (note_of (name_in t) unit FootZone [] ∷ [])) (λ items e. subst (λ (is : List Item). ItemsOf unit is) (same_ok e) (note_stands unit (name_in t) FootZone []))
         by_heads false false false = tt
 
     kind_stands : (t : Tree) (o : Option GraphicKind) → Stand (kind_gives board unit head t o)
     kind_stands t None = other_stands t
-    kind_stands t (Some kind) = ground_stands (ground_of board.copper t) (drawn_gives board unit head kind t) (drawn_stands kind t)
+    kind_stands t (Some kind) = layer_role_stands (layer_role_of board.copper t) (drawn_gives board unit head kind t) (drawn_stands kind t)
 
     child_stands : (t : Tree) → Stand (child_gives board unit head t)
     unfolding child_gives
@@ -204,22 +204,22 @@ foot_some board unit tree items says =
 
 -- ---- there is room for them
 
-with_few : (board : PlainBoard) (unit : ℕ) (gs : List Given) (before : ℕ) → before ≤ room_of board → with_room board unit before gs ≡ Ok tt → before + length gs ≤ room_of board
+with_few : (board : PlainBoard) (unit : ℕ) (gs : List Given) (before : ℕ) → before ≤ capacity_of board → with_reserved board unit before gs ≡ Ok tt → before + length gs ≤ capacity_of board
 with_few board unit [] before low h = omega (arith, low)
-with_few board unit (g ∷ gs) before low h = by_room (has_room_after before board unit) refl h (λ k e. with_few board unit gs (suc before) k e)
+with_few board unit (g ∷ gs) before low h = by_capacity (has_capacity_after before board unit) refl h (λ k e. with_few board unit gs (suc before) k e)
   where
-    by_room : (b : Bool) → has_room_after before board unit ≡ b → cond {A = Result (Unit {0}) BoardError} b (with_room board unit (suc before) gs) (Err (TooMany g.place)) ≡ Ok tt
-        → (suc before ≤ room_of board → with_room board unit (suc before) gs ≡ Ok tt → suc before + length gs ≤ room_of board) → before + length (g ∷ gs) ≤ room_of board
-    by_room false e h more = absurd cc
-    by_room true e h more =
-        let less = ltb-true before (room_of board) (first_holds (ltb before (room_of board)) (ltb unit 4294967295) e) in
+    by_capacity : (b : Bool) → has_capacity_after before board unit ≡ b → cond {A = Result (Unit {0}) BoardError} b (with_reserved board unit (suc before) gs) (Err (TooMany g.place)) ≡ Ok tt
+        → (suc before ≤ capacity_of board → with_reserved board unit (suc before) gs ≡ Ok tt → suc before + length gs ≤ capacity_of board) → before + length (g ∷ gs) ≤ capacity_of board
+    by_capacity false e h more = absurd cc
+    by_capacity true e h more =
+        let less = ltb-true before (capacity_of board) (first_holds (ltb before (capacity_of board)) (ltb unit 4294967295) e) in
         let k = more (omega (arith, less)) h in
         omega (arith, k)
 
-pub foot_few : (board : PlainBoard) (unit : ℕ) (tree : Tree) (items : List Item) → FootprintSays board unit tree (Ok items) → length items ≤ room_of board
+pub foot_few : (board : PlainBoard) (unit : ℕ) (tree : Tree) (items : List Item) → FootprintSays board unit tree (Ok items) → length items ≤ capacity_of board
 foot_few board unit tree items says =
     let k = foot_says board unit tree items says in
     let all = all_given unit k.head tree k.contents.given k.front k.back in
     let long : length all ≡ length items = sym (length-map all (λ (g : Given). g.item)) ∙ ap length k.are in
-    let few = with_few board unit all 0 (omega arith) k.room in
+    let few = with_few board unit all 0 (omega arith) k.capacity in
     omega (arith, long, few)

@@ -6,25 +6,25 @@ use Rattle.sexpr_read.specs.Tree.{Forest, Tree, branch, trees, parts}
 use Rattle.board_errors.specs.declared.errors.BoardError.{BoardError}
 use Rattle.board_errors.specs.declared.errors.BoardError.TheVariants.{Missing, Turned, UnknownLayer}
 use Rattle.copper_layers.specs.declared.set.LayerSet.{LayerSet}
-use Rattle.part_read.specs.declared.numbers.Spot.{Spot}
-use Rattle.list_read.specs.Answers.{◌>>=◌, needed}
-use Rattle.list_read.specs.Heads.{place, first_is, has_head}
-use Rattle.list_read.specs.Elements.{element}
-use Rattle.part_read.specs.Elements.{atom_of}
-use Rattle.part_read.specs.LayersOf.{copper_in}
+use Rattle.part_read.specs.declared.numbers.RawPoint.{RawPoint}
+use Rattle.list_read.specs.FirstRefusals.{◌>>=◌, needed}
+use Rattle.list_read.specs.ListHeads.{place, first_is, has_head}
+use Rattle.list_read.specs.NamedElements.{element}
+use Rattle.part_read.specs.ElementResults.{atom_of}
+use Rattle.part_read.specs.BoardLayers.{copper_in}
 use Rattle.pad_read.specs.declared.head.Head.{Head}
-use Rattle.pad_read.specs.Postures.{posture_of, quarters_of, clearance_of}
+use Rattle.pad_read.specs.LocalPlacements.{local_placement_of, quarters_of, clearance_of}
 use Rattle.footprint_read.specs.FootHead.{side_by, side_of, is_word, says, second_text, reference_by, reference_of, head_of}
-use Rattle.roundtrip_lists.specs.Alike.{Shift}
-use Rattle.roundtrip_lists.specs.Agreeing.{Agrees, Same, FoundAlike}
-use Rattle.roundtrip_lists.specs.Moved.{IsMovedSpot}
-use Rattle.roundtrip_lists.proofs.Elements.{agrees_bind, heads_alike, texts_alike, same_value}
-use Rattle.roundtrip_lists.proofs.Numbers.{copper_in_alike}
+use Rattle.roundtrip_lists.specs.Translated.{Shift}
+use Rattle.roundtrip_lists.specs.Agreeing.{Agrees, Same, FoundTranslated}
+use Rattle.roundtrip_lists.specs.Moved.{IsMovedRawPoint}
+use Rattle.roundtrip_lists.proofs.Elements.{agrees_bind, heads_translated, texts_translated, same_value}
+use Rattle.roundtrip_lists.proofs.Numbers.{copper_in_translated}
 use Rattle.roundtrip_lists.proofs.Steps.{same_bind, needed_same}
-use Rattle.roundtrip_footprints.specs.Places.{PostureMoved, AtMoved}
+use Rattle.roundtrip_footprints.specs.FootprintPlaces.{LocalPlacementMoved, AtMoved}
 use Rattle.roundtrip_footprints.proofs.Parts.{Plain, inside, PartsFound, part_found, atom_step}
 use Rattle.roundtrip_footprints.proofs.Frames.{clearance_found}
-use Rattle.roundtrip_footprints.proofs.Finding.{other_head, find_again, element_again, posture_again}
+use Rattle.roundtrip_footprints.proofs.Finding.{other_head, find_again, element_again, local_placement_again}
 
 -- ---- the side
 
@@ -50,12 +50,12 @@ module _ (d : Shift) (copper : LayerSet) (i j : Forest) (s r : Span) (h : AtMove
       of_list : Tree → Result Bool BoardError
       of_list t = atom_of 1 t >>= λ atom. (copper_in copper atom >>= side_by atom)
 
-      by_found : (o p : Option Tree) → FoundAlike None (has_head (codes "layer")) o p → Agrees Same (needed (Missing (place one)) o >>= of_list) (needed (Missing (place two)) p >>= of_list)
+      by_found : (o p : Option Tree) → FoundTranslated None (has_head (codes "layer")) o p → Agrees Same (needed (Missing (place one)) o >>= of_list) (needed (Missing (place two)) p >>= of_list)
       by_found None None k = tt
       by_found None (Some y) k = absurd k
       by_found (Some x) None k = absurd k
       by_found (Some x) (Some y) k =
-          atom_step Same 1 x y _ _ (inside x y k.0) (λ a b m. same_bind Same (copper_in copper a) (copper_in copper b) (side_by a) (side_by b) (copper_in_alike copper a b m) (λ layer. side_by_same a b layer))
+          atom_step Same 1 x y _ _ (inside x y k.0) (λ a b m. same_bind Same (copper_in copper a) (copper_in copper b) (side_by a) (side_by b) (copper_in_translated copper a b m) (λ layer. side_by_same a b layer))
 
   -- ---- the reference
 
@@ -63,23 +63,23 @@ module _ (d : Shift) (copper : LayerSet) (i j : Forest) (s r : Span) (h : AtMove
   word_found word None None k = refl
   word_found word None (Some y) k = absurd k
   word_found word (Some x) None k = absurd k
-  word_found word (Some x) (Some y) k = texts_alike None x y word k
+  word_found word (Some x) (Some y) k = texts_translated None x y word k
 
   says_same : (head word : List ℕ) (t u : Tree) → Plain t u → says head word t ≡ says head word u
   says_same head word t u k =
-      ap (λ (b : Bool). b && is_word word (slice_get (parts t) 1)) (heads_alike None t u head k)
+      ap (λ (b : Bool). b && is_word word (slice_get (parts t) 1)) (heads_translated None t u head k)
       ∙ ap (λ (b : Bool). has_head head u && b) (word_found word (slice_get (parts t) 1) (slice_get (parts u) 1) (part_found t u 1 (inside t u k)))
 
   never_says : (head word : List ℕ) → bytes_eq (codes "at") head ≡ false → (p : Span) (f : Forest) → first_is (trees f) (codes "at") ≡ true → says head word (branch p f) ≡ false
   never_says head word other p f first = ap (λ (b : Bool). b && is_word word (slice_get (trees f) 1)) (other_head p f head first other)
 
-  says_found : (head word : List ℕ) → bytes_eq (codes "at") head ≡ false → FoundAlike None (says head word) (find (says head word) (trees i)) (find (says head word) (trees j))
+  says_found : (head word : List ℕ) → bytes_eq (codes "at") head ≡ false → FoundTranslated None (says head word) (find (says head word) (trees i)) (find (says head word) (trees j))
   says_found head word other = find_again d (says head word) (λ t u k. says_same head word t u k) (λ p f first. never_says head word other p f first) i j h
 
   second_same : (x y : Tree) → Plain x y → Agrees Same (second_text x) (second_text y)
   second_same x y k = atom_step Same 2 x y _ _ (inside x y k) (λ a b m. ap (λ (v : Option (List ℕ)). unwrap_or v []) (sym (same_value a b m)))
 
-  reference_found : (m n : Tree → Bool) (o p a b : Option Tree) → FoundAlike None m o p → FoundAlike None n a b → Agrees Same (reference_by o a) (reference_by p b)
+  reference_found : (m n : Tree → Bool) (o p a b : Option Tree) → FoundTranslated None m o p → FoundTranslated None n a b → Agrees Same (reference_by o a) (reference_by p b)
   reference_found m n None None None None k l = refl
   reference_found m n None None None (Some y) k l = absurd l
   reference_found m n None None (Some x) None k l = absurd l
@@ -98,9 +98,9 @@ module _ (d : Shift) (copper : LayerSet) (i j : Forest) (s r : Span) (h : AtMove
 
   -- the same head, but for the spot
   pub record HeadAgain (x y : Head) : Type 0 where
-    pub spot : Spot
-    pub moved : IsMovedSpot (Some d) x.stance.at spot
-    pub is : y ≡ record x { stance = record { quarter = x.stance.quarter; at = spot } }
+    pub raw_point : RawPoint
+    pub moved : IsMovedRawPoint (Some d) x.placement.at raw_point
+    pub is : y ≡ record x { placement = record { quarter = x.placement.quarter; at = raw_point } }
 
   clearance_again : Agrees Same (clearance_of one) (clearance_of two)
   unfolding clearance_of
@@ -110,15 +110,15 @@ module _ (d : Shift) (copper : LayerSet) (i j : Forest) (s r : Span) (h : AtMove
   unfolding head_of
   head_again =
       same_bind HeadAgain (side_of copper one) (side_of copper two) _ _ side_again (λ on_back.
-      agrees_bind (PostureMoved d) HeadAgain (posture_of one) (posture_of two) _ _ (posture_again d i j s r h) (λ p q k.
-      subst (λ (a : ℤ). Agrees HeadAgain (from_posture one on_back p.at p.angle) (from_posture two on_back q.at a)) (sym k.1)
+      agrees_bind (LocalPlacementMoved d) HeadAgain (local_placement_of one) (local_placement_of two) _ _ (local_placement_again d i j s r h) (λ p q k.
+      subst (λ (a : ℤ). Agrees HeadAgain (from_local_placement one on_back p.at p.angle) (from_local_placement two on_back q.at a)) (sym k.1)
       (same_bind HeadAgain (needed (Turned (place one)) (quarters_of p.angle)) (needed (Turned (place two)) (quarters_of p.angle)) _ _ (needed_same (Turned (place one)) (Turned (place two)) (quarters_of p.angle) (quarters_of p.angle) refl) (λ quarter.
       same_bind HeadAgain (reference_of one) (reference_of two) _ _ reference_again (λ reference.
-      same_bind HeadAgain (clearance_of one) (clearance_of two) _ _ clearance_again (λ clearance. record { spot = q.at; moved = k.0; is = refl }))))))
+      same_bind HeadAgain (clearance_of one) (clearance_of two) _ _ clearance_again (λ clearance. record { raw_point = q.at; moved = k.0; is = refl }))))))
     where
-      from_posture : Tree → Bool → Spot → ℤ → Result Head BoardError
-      from_posture tree on_back at angle =
+      from_local_placement : Tree → Bool → RawPoint → ℤ → Result Head BoardError
+      from_local_placement tree on_back at angle =
           needed (Turned (place tree)) (quarters_of angle) >>= λ quarter.
           (reference_of tree >>= λ reference.
           (clearance_of tree >>= λ clearance.
-          Ok (record { on_back = on_back; stance = record { quarter = quarter; at = at }; reference = reference; clearance = clearance })))
+          Ok (record { on_back = on_back; placement = record { quarter = quarter; at = at }; reference = reference; clearance = clearance })))

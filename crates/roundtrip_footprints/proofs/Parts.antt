@@ -3,24 +3,24 @@ use Rattle.std.proofs.Common.{◌≡◌, refl, sym, subst, ℕ, zero, suc, List,
 use Rattle.std.specs.Prelude.{slice_get, if◌then◌else◌}
 use Rattle.sexpr_read.specs.Tree.{Forest, none, atom, list, Tree, leaf, branch, trees, parts, is_list}
 use Rattle.board_errors.specs.declared.errors.BoardError.{BoardError}
-use Rattle.list_read.specs.Answers.{◌>>=◌}
-use Rattle.list_read.specs.Heads.{has_head}
-use Rattle.list_read.specs.Elements.{element}
-use Rattle.part_read.specs.Elements.{in_needed, given_or, atom_of, atom_or}
-use Rattle.part_read.specs.Numbers.{length_in, spot_at}
-use Rattle.roundtrip_lists.specs.Alike.{Alike, AlikeTrees}
-use Rattle.roundtrip_lists.specs.Agreeing.{Agrees, OptionsAgree, Same, SameAtom, AlikeParts, FoundAlike, forest_in}
-use Rattle.roundtrip_lists.proofs.Elements.{agrees_bind, agrees_both, given_or_alike, atom_alike}
-use Rattle.roundtrip_lists.proofs.Numbers.{length_alike}
-use Rattle.roundtrip_lists.proofs.Spots.{same_spot}
+use Rattle.list_read.specs.FirstRefusals.{◌>>=◌}
+use Rattle.list_read.specs.ListHeads.{has_head}
+use Rattle.list_read.specs.NamedElements.{element}
+use Rattle.part_read.specs.ElementResults.{in_needed, given_or, atom_of, atom_or}
+use Rattle.part_read.specs.BoardNumbers.{length_in, raw_point_at}
+use Rattle.roundtrip_lists.specs.Translated.{Translated, TranslatedTrees}
+use Rattle.roundtrip_lists.specs.Agreeing.{Agrees, OptionsAgree, Same, SameAtom, TranslatedParts, FoundTranslated, forest_in}
+use Rattle.roundtrip_lists.proofs.Elements.{agrees_bind, agrees_both, given_or_translated, atom_translated}
+use Rattle.roundtrip_lists.proofs.Numbers.{length_translated}
+use Rattle.roundtrip_lists.proofs.RawPoints.{same_raw_point}
 use Rattle.roundtrip_lists.proofs.Steps.{parts_are, element_in}
 
 -- the same but for spans
 abbrev pub Plain : Tree → Tree → Type 0
-Plain t u = AlikeTrees None t u
+Plain t u = TranslatedTrees None t u
 
 abbrev pub PlainParts : Tree → Tree → Type 0
-PlainParts t u = AlikeParts None t u
+PlainParts t u = TranslatedParts None t u
 
 pub inside : (t u : Tree) → Plain t u → PlainParts t u
 inside (leaf s q c) (leaf r p e) h = tt
@@ -38,7 +38,7 @@ lists_same (branch s i) (branch r j) h = refl
 abbrev pub PartsFound : Option Tree → Option Tree → Type 0
 PartsFound o p = OptionsAgree Plain o p
 
-get_plain : (f g : Forest) (k : ℕ) → Alike None f g → PartsFound (slice_get (trees f) k) (slice_get (trees g) k)
+get_plain : (f g : Forest) (k : ℕ) → Translated None f g → PartsFound (slice_get (trees f) k) (slice_get (trees g) k)
 get_plain none none k h = tt
 get_plain none (atom t r e rest) k h = absurd h
 get_plain none (list t within rest) k h = absurd h
@@ -61,14 +61,14 @@ part_found t u k h =
 -- what is read of an atom
 pub atom_step : {A B : Type 0} (S : A → B → Type 0) (k : ℕ) (t u : Tree) (f : Tree → Result A BoardError) (g : Tree → Result B BoardError) → PlainParts t u
     → ((a b : Tree) → SameAtom a b → Agrees S (f a) (g b)) → Agrees S (atom_of k t >>= f) (atom_of k u >>= g)
-atom_step S k t u f g h law = agrees_bind SameAtom S (atom_of k t) (atom_of k u) f g (agrees_both SameAtom (atom_of k t) (atom_of k u) (atom_alike None k t u h)) law
+atom_step S k t u f g h law = agrees_bind SameAtom S (atom_of k t) (atom_of k u) f g (agrees_both SameAtom (atom_of k t) (atom_of k u) (atom_translated None k t u h)) law
 
 -- what is read in an element that must be there
 pub needed_step : {A B : Type 0} (S : A → B → Type 0) (word : List ℕ) (t u : Tree) (f : Tree → Result A BoardError) (g : Tree → Result B BoardError) → PlainParts t u
     → ((x y : Tree) → PlainParts x y → Agrees S (f x) (g y)) → Agrees S (in_needed f t (element word t)) (in_needed g u (element word u))
 needed_step S word t u f g h law = by_found (element word t) (element word u) (element_in None word t u h)
   where
-    by_found : (o p : Option Tree) → FoundAlike None (has_head word) o p → Agrees S (in_needed f t o) (in_needed g u p)
+    by_found : (o p : Option Tree) → FoundTranslated None (has_head word) o p → Agrees S (in_needed f t o) (in_needed g u p)
     by_found None None k = tt
     by_found None (Some y) k = absurd k
     by_found (Some x) None k = absurd k
@@ -77,13 +77,13 @@ needed_step S word t u f g h law = by_found (element word t) (element word u) (e
 -- and in one that may be missing
 pub given_step : {A B : Type 0} (S : A → B → Type 0) (word : List ℕ) (x : A) (y : B) (f : Tree → Result A BoardError) (g : Tree → Result B BoardError) (t u : Tree) → PlainParts t u → S x y
     → ((v w : Tree) → PlainParts v w → Agrees S (f v) (g w)) → Agrees S (given_or x f (element word t)) (given_or y g (element word u))
-given_step S word x y f g t u h same law = given_or_alike S None (has_head word) x y f g (element word t) (element word u) (element_in None word t u h) same (λ v w k e. law v w (inside v w k))
+given_step S word x y f g t u h same law = given_or_translated S None (has_head word) x y f g (element word t) (element word u) (element_in None word t u h) same (λ v w k e. law v w (inside v w k))
 
-pub spot_plain : (t u : Tree) → PlainParts t u → Agrees Same (spot_at t) (spot_at u)
-spot_plain t u h = same_spot None t u h
+pub raw_point_plain : (t u : Tree) → PlainParts t u → Agrees Same (raw_point_at t) (raw_point_at u)
+raw_point_plain t u h = same_raw_point None t u h
 
 pub length_plain : (t u : Tree) → SameAtom t u → Agrees Same (length_in t) (length_in u)
-length_plain t u h = length_alike t u h
+length_plain t u h = length_translated t u h
 
 -- an atom among the parts is one in both
 atoms_only : {A : Type 0} (S : A → A → Type 0) (t u : Tree) (otherwise : Result A BoardError) (f g : Tree → Result A BoardError) → Plain t u → Agrees S otherwise otherwise → ((a b : Tree) → SameAtom a b → Agrees S (f a) (g b))

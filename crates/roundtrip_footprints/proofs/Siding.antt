@@ -6,35 +6,35 @@ use Rattle.std.proofs.lemmas.List.{map-append}
 use Rattle.sexpr_read.specs.Tree.{Forest, none, atom, list, Tree, leaf, branch, trees, parts}
 use Rattle.board_errors.specs.declared.errors.BoardError.{BoardError}
 use Rattle.board_errors.specs.declared.errors.BoardError.TheVariants.{Missing}
-use Rattle.part_read.specs.declared.numbers.Spot.{Spot}
-use Rattle.part_read.specs.declared.stances.Stance.{Stance}
+use Rattle.part_read.specs.declared.numbers.RawPoint.{RawPoint}
+use Rattle.part_read.specs.declared.placements.Placement.{Placement}
 use Rattle.part_read.specs.declared.figures.Figure.TheVariants.{Outline as OutlineFigure}
 use Rattle.part_read.specs.declared.drawings.GraphicKind.{GraphicKind}
 use Rattle.part_read.specs.declared.drawings.GraphicKind.TheVariants.{Line, Rect, Circle, Outline}
-use Rattle.list_read.specs.Answers.{◌>>=◌, needed}
-use Rattle.list_read.specs.Heads.{place, has_head}
-use Rattle.list_read.specs.Elements.{element}
-use Rattle.part_read.specs.Numbers.{spot_at, spot_of}
-use Rattle.part_read.specs.Drawings.{spots_among}
-use Rattle.part_read.specs.Stances.{stood}
+use Rattle.list_read.specs.FirstRefusals.{◌>>=◌, needed}
+use Rattle.list_read.specs.ListHeads.{place, has_head}
+use Rattle.list_read.specs.NamedElements.{element}
+use Rattle.part_read.specs.BoardNumbers.{raw_point_at, raw_point_of}
+use Rattle.part_read.specs.Drawings.{raw_points_among}
+use Rattle.part_read.specs.Placements.{stood}
 use Rattle.footprint_read.specs.declared.sides.CourtSide.{CourtSide}
 use Rattle.footprint_read.specs.declared.sides.Course.{Course}
-use Rattle.footprint_read.specs.Courtyards.{empty_side, side_then, curve_side, figure_side, line_side, rect_side, circle_side, spots_side, has_arc, outline_side, graphic_side}
-use Rattle.roundtrip_lists.specs.Alike.{Shift, Alike}
-use Rattle.roundtrip_lists.specs.Agreeing.{Agrees, Same, FoundAlike, forest_in}
-use Rattle.roundtrip_lists.specs.Moved.{IsMovedSpot, moved_spot}
-use Rattle.roundtrip_lists.proofs.Elements.{agrees_bind, heads_alike}
-use Rattle.roundtrip_lists.proofs.Corners.{parts_alike}
+use Rattle.footprint_read.specs.Courtyards.{empty_side, side_then, curve_side, figure_side, line_side, rect_side, circle_side, raw_points_side, has_arc, outline_side, graphic_side}
+use Rattle.roundtrip_lists.specs.Translated.{Shift, Translated}
+use Rattle.roundtrip_lists.specs.Agreeing.{Agrees, Same, FoundTranslated, forest_in}
+use Rattle.roundtrip_lists.specs.Moved.{IsMovedRawPoint, moved_raw_point}
+use Rattle.roundtrip_lists.proofs.Elements.{agrees_bind, heads_translated}
+use Rattle.roundtrip_lists.proofs.Corners.{parts_translated}
 use Rattle.roundtrip_lists.proofs.Steps.{same_bind, parts_are, element_in}
-use Rattle.roundtrip_footprints.specs.Heads.{moved_stance}
-use Rattle.roundtrip_footprints.proofs.Parts.{PlainParts, inside, needed_step, spot_plain}
-use Rattle.roundtrip_footprints.proofs.Forms.{same_spots}
+use Rattle.roundtrip_footprints.specs.MovedHeads.{moved_placement}
+use Rattle.roundtrip_footprints.proofs.Parts.{PlainParts, inside, needed_step, raw_point_plain}
+use Rattle.roundtrip_footprints.proofs.Forms.{same_raw_points}
 use Rattle.roundtrip_footprints.proofs.Standing.{stood_moved}
 
 -- ---- a side that is moved: its lines stand on the board, and its figures in the footprint
 
 abbrev pub moved_course : Shift → Course → Course
-moved_course d line = record { a = moved_spot d line.a; b = moved_spot d line.b }
+moved_course d line = record { a = moved_raw_point d line.a; b = moved_raw_point d line.b }
 
 abbrev pub moved_side : Shift → CourtSide → CourtSide
 moved_side d side = record side { lines = map (moved_course d) side.lines }
@@ -43,36 +43,36 @@ module _ (d : Shift) where
   abbrev pub SideMoved : CourtSide → CourtSide → Type 0
   SideMoved x y = y ≡ moved_side d x
 
-  spot_same : (word : List ℕ) (t u : Tree) → PlainParts t u → Agrees Same (spot_of word t) (spot_of word u)
-  spot_same word t u h = needed_step Same word t u spot_at spot_at h spot_plain
+  raw_point_same : (word : List ℕ) (t u : Tree) → PlainParts t u → Agrees Same (raw_point_of word t) (raw_point_of word u)
+  raw_point_same word t u h = needed_step Same word t u raw_point_at raw_point_at h raw_point_plain
 
-  line_moved : (stance : Stance) (t u : Tree) → PlainParts t u → Agrees SideMoved (line_side stance t) (line_side (moved_stance d stance) u)
+  line_moved : (placement : Placement) (t u : Tree) → PlainParts t u → Agrees SideMoved (line_side placement t) (line_side (moved_placement d placement) u)
   unfolding line_side
-  line_moved stance t u h =
-      same_bind SideMoved (spot_of (codes "start") t) (spot_of (codes "start") u) _ _ (spot_same (codes "start") t u h) (λ a.
-      same_bind SideMoved (spot_of (codes "end") t) (spot_of (codes "end") u) _ _ (spot_same (codes "end") t u h) (λ b.
-      ap (λ (z : Spot). record empty_side { lines = record { a = z; b = stood (moved_stance d stance) b } ∷ [] }) (stood_moved d stance a)
-      ∙ ap (λ (z : Spot). record empty_side { lines = record { a = moved_spot d (stood stance a); b = z } ∷ [] }) (stood_moved d stance b)))
+  line_moved placement t u h =
+      same_bind SideMoved (raw_point_of (codes "start") t) (raw_point_of (codes "start") u) _ _ (raw_point_same (codes "start") t u h) (λ a.
+      same_bind SideMoved (raw_point_of (codes "end") t) (raw_point_of (codes "end") u) _ _ (raw_point_same (codes "end") t u h) (λ b.
+      ap (λ (z : RawPoint). record empty_side { lines = record { a = z; b = stood (moved_placement d placement) b } ∷ [] }) (stood_moved d placement a)
+      ∙ ap (λ (z : RawPoint). record empty_side { lines = record { a = moved_raw_point d (stood placement a); b = z } ∷ [] }) (stood_moved d placement b)))
 
   rect_moved : (t u : Tree) → PlainParts t u → Agrees SideMoved (rect_side t) (rect_side u)
   unfolding rect_side
   rect_moved t u h =
-      same_bind SideMoved (spot_of (codes "start") t) (spot_of (codes "start") u) _ _ (spot_same (codes "start") t u h) (λ a.
-      same_bind SideMoved (spot_of (codes "end") t) (spot_of (codes "end") u) _ _ (spot_same (codes "end") t u h) (λ b. refl))
+      same_bind SideMoved (raw_point_of (codes "start") t) (raw_point_of (codes "start") u) _ _ (raw_point_same (codes "start") t u h) (λ a.
+      same_bind SideMoved (raw_point_of (codes "end") t) (raw_point_of (codes "end") u) _ _ (raw_point_same (codes "end") t u h) (λ b. refl))
 
   circle_moved : (t u : Tree) → PlainParts t u → Agrees SideMoved (circle_side t) (circle_side u)
   unfolding circle_side
   circle_moved t u h =
-      same_bind SideMoved (spot_of (codes "center") t) (spot_of (codes "center") u) _ _ (spot_same (codes "center") t u h) (λ a.
-      same_bind SideMoved (spot_of (codes "end") t) (spot_of (codes "end") u) _ _ (spot_same (codes "end") t u h) (λ b. refl))
+      same_bind SideMoved (raw_point_of (codes "center") t) (raw_point_of (codes "center") u) _ _ (raw_point_same (codes "center") t u h) (λ a.
+      same_bind SideMoved (raw_point_of (codes "end") t) (raw_point_of (codes "end") u) _ _ (raw_point_same (codes "end") t u h) (λ b. refl))
 
-  spots_moved : (t u : Tree) (curved : Bool) (spots : List Spot) → Agrees SideMoved (spots_side t curved spots) (spots_side u curved spots)
-  spots_moved t u curved spots = by_tests curved (nat_le 3 (length spots))
+  raw_points_moved : (t u : Tree) (curved : Bool) (raw_points : List RawPoint) → Agrees SideMoved (raw_points_side t curved raw_points) (raw_points_side u curved raw_points)
+  raw_points_moved t u curved raw_points = by_tests curved (nat_le 3 (length raw_points))
     where
       side_by : Tree → Bool → Bool → Result CourtSide BoardError
       side_by t curved many =
           if curved then Ok curve_side
-          else if many then Ok (figure_side (OutlineFigure spots))
+          else if many then Ok (figure_side (OutlineFigure raw_points))
           else Err (Missing (place t))
 
       by_tests : (curved many : Bool) → Agrees SideMoved (side_by t curved many) (side_by u curved many)
@@ -80,7 +80,7 @@ module _ (d : Shift) where
       by_tests false true = refl
       by_tests false false = tt
 
-  any_arc : (f g : Forest) → Alike None f g → list_any (has_head (codes "arc")) (trees g) ≡ list_any (has_head (codes "arc")) (trees f)
+  any_arc : (f g : Forest) → Translated None f g → list_any (has_head (codes "arc")) (trees g) ≡ list_any (has_head (codes "arc")) (trees f)
   any_arc none none h = refl
   any_arc none (atom t r e rest) h = absurd h
   any_arc none (list t within rest) h = absurd h
@@ -89,9 +89,9 @@ module _ (d : Shift) where
   any_arc (list s i others) none h = absurd h
   any_arc (list s i others) (atom t r e rest) h = absurd h
   any_arc (atom s q c others) (atom t r e rest) h =
-      ap (λ (b : Bool). b || list_any (has_head (codes "arc")) (trees rest)) (sym (heads_alike None (leaf s q c) (leaf t r e) (codes "arc") (h.0, h.1))) ∙ ap (λ (b : Bool). has_head (codes "arc") (leaf s q c) || b) (any_arc others rest h.2)
+      ap (λ (b : Bool). b || list_any (has_head (codes "arc")) (trees rest)) (sym (heads_translated None (leaf s q c) (leaf t r e) (codes "arc") (h.0, h.1))) ∙ ap (λ (b : Bool). has_head (codes "arc") (leaf s q c) || b) (any_arc others rest h.2)
   any_arc (list s i others) (list t j rest) h =
-      ap (λ (b : Bool). b || list_any (has_head (codes "arc")) (trees rest)) (sym (heads_alike None (branch s i) (branch t j) (codes "arc") h.0)) ∙ ap (λ (b : Bool). has_head (codes "arc") (branch s i) || b) (any_arc others rest h.1)
+      ap (λ (b : Bool). b || list_any (has_head (codes "arc")) (trees rest)) (sym (heads_translated None (branch s i) (branch t j) (codes "arc") h.0)) ∙ ap (λ (b : Bool). has_head (codes "arc") (branch s i) || b) (any_arc others rest h.1)
 
   arc_same : (t u : Tree) → PlainParts t u → has_arc u ≡ has_arc t
   arc_same t u h =
@@ -102,22 +102,22 @@ module _ (d : Shift) where
   outline_moved t u h = by_found (element (codes "pts") t) (element (codes "pts") u) (element_in None (codes "pts") t u h)
     where
       of_list : Tree → Result CourtSide BoardError
-      of_list t = spots_among true (parts t) >>= λ spots. spots_side t (has_arc t) spots
+      of_list t = raw_points_among true (parts t) >>= λ raw_points. raw_points_side t (has_arc t) raw_points
 
-      by_found : (o p : Option Tree) → FoundAlike None (has_head (codes "pts")) o p → Agrees SideMoved (needed (Missing (place t)) o >>= of_list) (needed (Missing (place u)) p >>= of_list)
+      by_found : (o p : Option Tree) → FoundTranslated None (has_head (codes "pts")) o p → Agrees SideMoved (needed (Missing (place t)) o >>= of_list) (needed (Missing (place u)) p >>= of_list)
       by_found None None k = tt
       by_found None (Some y) k = absurd k
       by_found (Some x) None k = absurd k
       by_found (Some x) (Some y) k =
-          agrees_bind (AllZip (IsMovedSpot None)) SideMoved (spots_among true (parts x)) (spots_among true (parts y)) _ _ (parts_alike None true x y (inside x y k.0)) (λ ss ts m.
-          subst (λ (l : List Spot). Agrees SideMoved (spots_side x (has_arc x) ss) (spots_side y (has_arc y) l)) (sym (same_spots ss ts m))
-          (subst (λ (b : Bool). Agrees SideMoved (spots_side x (has_arc x) ss) (spots_side y b ss)) (sym (arc_same x y (inside x y k.0))) (spots_moved x y (has_arc x) ss)))
+          agrees_bind (AllZip (IsMovedRawPoint None)) SideMoved (raw_points_among true (parts x)) (raw_points_among true (parts y)) _ _ (parts_translated None true x y (inside x y k.0)) (λ ss ts m.
+          subst (λ (l : List RawPoint). Agrees SideMoved (raw_points_side x (has_arc x) ss) (raw_points_side y (has_arc y) l)) (sym (same_raw_points ss ts m))
+          (subst (λ (b : Bool). Agrees SideMoved (raw_points_side x (has_arc x) ss) (raw_points_side y b ss)) (sym (arc_same x y (inside x y k.0))) (raw_points_moved x y (has_arc x) ss)))
 
-  pub graphic_moved : (stance : Stance) (kind : GraphicKind) (t u : Tree) → PlainParts t u → Agrees SideMoved (graphic_side stance kind t) (graphic_side (moved_stance d stance) kind u)
-  graphic_moved stance Line t u h = line_moved stance t u h
-  graphic_moved stance Rect t u h = rect_moved t u h
-  graphic_moved stance Circle t u h = circle_moved t u h
-  graphic_moved stance Outline t u h = outline_moved t u h
+  pub graphic_moved : (placement : Placement) (kind : GraphicKind) (t u : Tree) → PlainParts t u → Agrees SideMoved (graphic_side placement kind t) (graphic_side (moved_placement d placement) kind u)
+  graphic_moved placement Line t u h = line_moved placement t u h
+  graphic_moved placement Rect t u h = rect_moved t u h
+  graphic_moved placement Circle t u h = circle_moved t u h
+  graphic_moved placement Outline t u h = outline_moved t u h
 
   pub sides_moved : (a b p q : CourtSide) → SideMoved a p → SideMoved b q → SideMoved (side_then a b) (side_then p q)
   sides_moved a b p q h k =

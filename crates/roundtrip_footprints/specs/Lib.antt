@@ -1,3 +1,3 @@
-pub mod Heads
-pub mod Places
-pub mod Given
+pub mod MovedHeads
+pub mod FootprintPlaces
+pub mod FootprintResults

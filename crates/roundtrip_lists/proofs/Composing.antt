@@ -12,8 +12,8 @@ use Rattle.board_items.specs.declared.item.Hole.{Hole}
 use Rattle.board_items.specs.declared.item.What.{What}
 use Rattle.board_items.specs.declared.item.What.TheVariants.{Track, Via, Pad, Graphic, Fill, Edge, Area as RuleArea, Body, Note}
 use Rattle.board_items.specs.declared.item.Item.{Item}
-use Rattle.board_items.specs.Moves.{IsShiftedPart, AreShifted, HoleIsShifted, KindIsShifted, IsShiftedItem}
-use Rattle.roundtrip_lists.specs.Alike.{Shift}
+use Rattle.board_items.specs.ItemMoves.{IsShiftedPart, AreShifted, HoleIsShifted, KindIsShifted, IsShiftedItem}
+use Rattle.roundtrip_lists.specs.Translated.{Shift}
 use Rattle.roundtrip_lists.specs.Carried.{IsCarried}
 
 sum_of : (a b c u v : ℤ) → b ≡ a +ℤ (pos 2 *ℤ u) → c ≡ b +ℤ (pos 2 *ℤ v) → c ≡ a +ℤ (pos 2 *ℤ (u +ℤ v))

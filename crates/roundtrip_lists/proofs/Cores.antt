@@ -7,15 +7,15 @@ use Rattle.geo_seg.specs.declared.points.Point.{Point}
 use Rattle.geo_seg.specs.declared.points.Seg.{Seg}
 use Rattle.geo_seg.specs.declared.shapes.Core.{Core}
 use Rattle.geo_seg.specs.declared.shapes.Core.TheVariants.{Line as LineCore, Area}
-use Rattle.part_read.specs.declared.numbers.Spot.{Spot}
-use Rattle.part_read.specs.declared.stances.Stance.{Stance}
+use Rattle.part_read.specs.declared.numbers.RawPoint.{RawPoint}
+use Rattle.part_read.specs.declared.placements.Placement.{Placement}
 use Rattle.part_read.specs.There.{both}
-use Rattle.part_read.specs.Stances.{point_stood, points_stood}
+use Rattle.part_read.specs.Placements.{point_stood, points_stood}
 use Rattle.part_read.specs.Figures.{sides_from, sides, box_corners, line_cores, box_between, cores_around}
 use Rattle.part_read.proofs.There.{map_some, both_some}
 use Rattle.part_read.proofs.Shapes.{one_point}
-use Rattle.roundtrip_lists.specs.Alike.{Shift}
-use Rattle.roundtrip_lists.specs.Standing.{StandsMoved}
+use Rattle.roundtrip_lists.specs.Translated.{Shift}
+use Rattle.roundtrip_lists.specs.FigurePositions.{StandsMoved}
 use Rattle.roundtrip_lists.proofs.Figures.{moved_point, moved_core, point_carried, points_carried, one_same}
 
 -- numbers that are moved alike are equal where they were
@@ -25,12 +25,12 @@ eq_moved a b d = grind (arith, ints)
 eq_after : (a b c e d : ℤ) → c ≡ a +ℤ d → e ≡ b +ℤ d → int_eq c e ≡ int_eq a b
 eq_after a b c e d h k = ap (λ (z : ℤ). int_eq z e) h ∙ ap (λ (z : ℤ). int_eq (a +ℤ d) z) k ∙ eq_moved a b d
 
-module _ (d : Shift) (stance new : Stance) where
+module _ (d : Shift) (placement new : Placement) where
   abbrev pub Moved : Point → Point → Type 0
-  Moved p q = moved_point d stance new p q
+  Moved p q = moved_point d placement new p q
 
   abbrev pub AreMoved : List Core → List Core → Type 0
-  AreMoved cores others = AllZip (moved_core d stance new) cores others
+  AreMoved cores others = AllZip (moved_core d placement new) cores others
 
   -- ---- the sides of an outline
 
@@ -46,7 +46,7 @@ module _ (d : Shift) (stance new : Stance) where
   from_moved first other p [] (x ∷ y ∷ others) m h = absurd h.1
   from_moved first other p [] (Area corners ∷ []) m h = absurd h.0
   from_moved first other p [] (LineCore s ∷ []) m h =
-      let end : s.b ≡ other = one_same d stance new first s.b other h.0.1 m in
+      let end : s.b ≡ other = one_same d placement new first s.b other h.0.1 m in
       record {
         corner = s.a;
         corners = [];
@@ -58,7 +58,7 @@ module _ (d : Shift) (stance new : Stance) where
   from_moved first other p (q ∷ ps) (Area corners ∷ others) m h = absurd h.0
   from_moved first other p (q ∷ ps) (LineCore s ∷ others) m h =
       let k = from_moved first other q ps others m h.1 in
-      let end : s.b ≡ k.corner = one_same d stance new q s.b k.corner h.0.1 k.is in
+      let end : s.b ≡ k.corner = one_same d placement new q s.b k.corner h.0.1 k.is in
       record {
         corner = s.a;
         corners = k.corner ∷ k.corners;
@@ -84,7 +84,7 @@ module _ (d : Shift) (stance new : Stance) where
   sides_moved (p ∷ ps) others h =
       let start = start_of p p ps others h in
       let k = from_moved p start.0 p ps others start.1 h in
-      let same : k.corner ≡ start.0 = one_same d stance new p k.corner start.0 k.is start.1 in
+      let same : k.corner ≡ start.0 = one_same d placement new p k.corner start.0 k.is start.1 in
       (k.corner ∷ k.corners, (k.is, k.are), k.sides_are ∙ ap (λ (f : Point). line_cores (sides_from f k.corner k.corners)) (sym same))
 
   -- ---- boxes
@@ -132,7 +132,7 @@ module _ (d : Shift) (stance new : Stance) where
   abbrev core_by : Bool → Point → Point → Core
   core_by flat p q = cond flat (LineCore (record { a = p; b = q })) (Area (box_corners p q))
 
-  solid_moved : (p q : Point) (flat : Bool) (core : Core) → is_flat p q ≡ flat → moved_core d stance new (core_by flat p q) core → BoxMoved true p q (core ∷ [])
+  solid_moved : (p q : Point) (flat : Bool) (core : Core) → is_flat p q ≡ flat → moved_core d placement new (core_by flat p q) core → BoxMoved true p q (core ∷ [])
   solid_moved p q true (LineCore s) e h = record {
     one = s.a;
     two = s.b;
@@ -161,20 +161,20 @@ module _ (d : Shift) (stance new : Stance) where
       let m = corners_moved p q k.0 k.1 in
       record { one = m.one; two = m.two; is_one = m.is_one; is_two = m.is_two; are = k.2 ∙ ap (λ (l : List Point). line_cores (sides l)) m.are }
 
-  pub box_carried : (filled : Bool) (a b c e : Spot) (cores others : List Core) → StandsMoved d stance new a c → StandsMoved d stance new b e
-      → both (box_between filled) (point_stood stance a) (point_stood stance b) ≡ Some cores → AreMoved cores others → both (box_between filled) (point_stood new c) (point_stood new e) ≡ Some others
+  pub box_carried : (filled : Bool) (a b c e : RawPoint) (cores others : List Core) → StandsMoved d placement new a c → StandsMoved d placement new b e
+      → both (box_between filled) (point_stood placement a) (point_stood placement b) ≡ Some cores → AreMoved cores others → both (box_between filled) (point_stood new c) (point_stood new e) ≡ Some others
   box_carried filled a b c e cores others sa sb some h =
-      let k = both_some (box_between filled) (point_stood stance a) (point_stood stance b) cores some in
+      let k = both_some (box_between filled) (point_stood placement a) (point_stood placement b) cores some in
       let m = box_moved filled k.0 k.1 others (subst (λ (l : List Core). AreMoved l others) k.4 h) in
-      ap (λ (o : Option Point). both (box_between filled) o (point_stood new e)) (point_carried d stance new a c k.0 m.one sa k.2 m.is_one)
-      ∙ ap (λ (o : Option Point). both (box_between filled) (Some m.one) o) (point_carried d stance new b e k.1 m.two sb k.3 m.is_two)
+      ap (λ (o : Option Point). both (box_between filled) o (point_stood new e)) (point_carried d placement new a c k.0 m.one sa k.2 m.is_one)
+      ∙ ap (λ (o : Option Point). both (box_between filled) (Some m.one) o) (point_carried d placement new b e k.1 m.two sb k.3 m.is_two)
       ∙ ap (λ (l : List Core). let o : Option (List Core) = Some l in o) (sym m.are)
 
   -- ---- outlines that are not filled
 
-  pub open_carried : (ss ts : List Spot) (cores others : List Core) → AllZip (StandsMoved d stance new) ss ts → option_map (cores_around false) (points_stood stance ss) ≡ Some cores → AreMoved cores others
+  pub open_carried : (ss ts : List RawPoint) (cores others : List Core) → AllZip (StandsMoved d placement new) ss ts → option_map (cores_around false) (points_stood placement ss) ≡ Some cores → AreMoved cores others
       → option_map (cores_around false) (points_stood new ts) ≡ Some others
   open_carried ss ts cores others stands some h =
-      let k = map_some (cores_around false) (points_stood stance ss) cores some in
+      let k = map_some (cores_around false) (points_stood placement ss) cores some in
       let m = sides_moved k.0 others (subst (λ (l : List Core). AreMoved l others) k.2 h) in
-      ap (option_map (cores_around false)) (points_carried d stance new ss ts k.0 m.0 stands k.1 m.1) ∙ ap (λ (l : List Core). let o : Option (List Core) = Some l in o) (sym m.2)
+      ap (option_map (cores_around false)) (points_carried d placement new ss ts k.0 m.0 stands k.1 m.1) ∙ ap (λ (l : List Core). let o : Option (List Core) = Some l in o) (sym m.2)

@@ -5,9 +5,9 @@ use Rattle.std.proofs.lemmas.Bool.{eqb-true}
 use Rattle.geo_seg.specs.declared.points.Point.{Point}
 use Rattle.geo_seg.specs.declared.points.Seg.{Seg}
 use Rattle.courtyard.specs.declared.ends.LineEnd.{LineEnd}
-use Rattle.courtyard.specs.Ends.{place, is_short, point_of, opposite, Stands}
-use Rattle.courtyard.specs.Outlines.{Leads, first_or, LeadTo, IsOutline, EachOutline, times, times_in_all, point_left, points_left, closed, corners, AreChained}
-use Rattle.roundtrip_lists.specs.Moves.{HasPoint, HasCorner}
+use Rattle.courtyard.specs.Ends.{place, is_short, point_of, opposite, IsEndAt}
+use Rattle.courtyard.specs.ClosedOutlines.{LineLeadsTo, first_or, LeadTo, IsOutline, EachOutline, times, times_in_all, point_left, points_left, closed, corners, AreChained}
+use Rattle.roundtrip_lists.specs.ListMoves.{HasPoint, HasCorner}
 
 has_front : (ps qs : List Point) (k : ℤ × ℤ) → HasPoint ps k → HasPoint (ps ++ qs) k
 has_front [] qs k h = absurd h
@@ -28,36 +28,36 @@ has_closed (p ∷ q ∷ r ∷ ps) k h = h
 
 module _ (lines : List Seg) where
   -- the place at which an end stands is that of the point left from there
-  left_at : (e : LineEnd) (k : ℤ × ℤ) → Stands lines e k → HasPoint (point_left (slice_get lines e.line) e.far) k
+  left_at : (e : LineEnd) (k : ℤ × ℤ) → IsEndAt lines e k → HasPoint (point_left (slice_get lines e.line) e.far) k
   left_at e k h = subst (λ (o : Option Seg). HasPoint (point_left o e.far) k) (sym h.there) (inl h.at)
 
   -- each of the ends stands somewhere: where it leaves, and where it leads
-  first_left : (e : LineEnd) (es : List LineEnd) (k : ℤ × ℤ) → Stands lines e k → HasPoint (points_left lines (e ∷ es)) k
+  first_left : (e : LineEnd) (es : List LineEnd) (k : ℤ × ℤ) → IsEndAt lines e k → HasPoint (points_left lines (e ∷ es)) k
   first_left e es k h = has_front (point_left (slice_get lines e.line) e.far) (points_left lines es) k (left_at e k h)
 
   -- the end t, at which all ends, is left from too
   record IsLeft (t : LineEnd) (all : List Point) : Type 0 where
-    has : (k : ℤ × ℤ) → Stands lines t k → HasPoint all k
+    has : (k : ℤ × ℤ) → IsEndAt lines t k → HasPoint all k
 
-  end_place : (i : ℕ) (l : Seg) (e : LineEnd) (k : ℤ × ℤ) → slice_get lines i ≡ Some l → e.line ≡ i → Stands lines e k → place (point_of l e.far) ≡ k
+  end_place : (i : ℕ) (l : Seg) (e : LineEnd) (k : ℤ × ℤ) → slice_get lines i ≡ Some l → e.line ≡ i → IsEndAt lines e k → place (point_of l e.far) ≡ k
   end_place i l e k there at h =
       let same : h.line ≡ l = (let c : Some h.line ≡ Some l = sym h.there ∙ (ap (slice_get lines) at ∙ there) in cc) in
       ap (λ (s : Seg). place (point_of s e.far)) (sym same) ∙ h.at
 
-  stands_there : (i : ℕ) (l : Seg) (e : LineEnd) → slice_get lines i ≡ Some l → is_short l ≡ false → e.line ≡ i → Stands lines e (place (point_of l e.far))
+  stands_there : (i : ℕ) (l : Seg) (e : LineEnd) → slice_get lines i ≡ Some l → is_short l ≡ false → e.line ≡ i → IsEndAt lines e (place (point_of l e.far))
   stands_there i l e there long at = record { line = l; there = ap (slice_get lines) at ∙ there; long = long; at = refl }
 
   -- both ends of the line i are among the points left, where the line stands among the ends
   module _ (i : ℕ) (l : Seg) (there : slice_get lines i ≡ Some l) (long : is_short l ≡ false) where
     -- where the ends lead, one by one: what is left from at the next is where this one arrives
-    arrives : (e : LineEnd) (es : List LineEnd) (t : LineEnd) (all : List Point) → e.line ≡ i → Leads lines e (first_or t es) → IsLeft t all → ((k : ℤ × ℤ) → HasPoint (points_left lines es) k → HasPoint all k)
+    arrives : (e : LineEnd) (es : List LineEnd) (t : LineEnd) (all : List Point) → e.line ≡ i → LineLeadsTo lines e (first_or t es) → IsLeft t all → ((k : ℤ × ℤ) → HasPoint (points_left lines es) k → HasPoint all k)
         → HasPoint all (place (point_of l (not e.far)))
     arrives e [] t all at lead left more =
-        let spot : place (point_of l (not e.far)) ≡ lead.spot = end_place i l (opposite e) lead.spot there at lead.arrives in
-        subst (HasPoint all) (sym spot) (left.has lead.spot lead.leaves)
+        let raw_point : place (point_of l (not e.far)) ≡ lead.raw_point = end_place i l (opposite e) lead.raw_point there at lead.arrives in
+        subst (HasPoint all) (sym raw_point) (left.has lead.raw_point lead.leaves)
     arrives e (f ∷ es) t all at lead left more =
-        let spot : place (point_of l (not e.far)) ≡ lead.spot = end_place i l (opposite e) lead.spot there at lead.arrives in
-        subst (HasPoint all) (sym spot) (more lead.spot (first_left f es lead.spot lead.leaves))
+        let raw_point : place (point_of l (not e.far)) ≡ lead.raw_point = end_place i l (opposite e) lead.raw_point there at lead.arrives in
+        subst (HasPoint all) (sym raw_point) (more lead.raw_point (first_left f es lead.raw_point lead.leaves))
 
     both_ends : (a : Bool) (far : Bool) (all : List Point) → HasPoint all (place (point_of l a)) → HasPoint all (place (point_of l (not a))) → HasPoint all (place (point_of l far))
     both_ends true true all h k = h

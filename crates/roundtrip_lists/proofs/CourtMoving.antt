@@ -7,10 +7,10 @@ use Rattle.geo_seg.specs.declared.points.Point.{Point}
 use Rattle.geo_seg.specs.declared.points.Seg.{Seg}
 use Rattle.geo_seg.specs.Shifts.{IsShiftedPoint}
 use Rattle.courtyard.specs.declared.ends.LineEnd.{LineEnd}
-use Rattle.courtyard.specs.Ends.{place, is_same, is_short, point_of, opposite, Stands}
-use Rattle.courtyard.specs.Outlines.{Leads, first_or, LeadTo, IsOutline, EachOutline, AreOutlines, point_left, points_left, closed, corners, AreChained}
+use Rattle.courtyard.specs.Ends.{place, is_same, is_short, point_of, opposite, IsEndAt}
+use Rattle.courtyard.specs.ClosedOutlines.{LineLeadsTo, first_or, LeadTo, IsOutline, EachOutline, AreOutlines, point_left, points_left, closed, corners, AreChained}
 use Rattle.part_read.proofs.Shapes.{one_point}
-use Rattle.roundtrip_lists.specs.Moves.{IsShiftedSeg, AreShiftedSegs}
+use Rattle.roundtrip_lists.specs.ListMoves.{IsShiftedSeg, AreShiftedSegs}
 
 -- numbers that are moved alike are equal where they were
 pub eq_moved : (a b d : ℤ) → int_eq (a +ℤ d) (b +ℤ d) ≡ int_eq a b
@@ -48,7 +48,7 @@ module _ (dx dy : ℤ) where
   get_back (x ∷ lines) (y ∷ others) (suc i) m h e = get_back lines others i m h.1 e
 
   module _ (lines others : List Seg) (shifted : AreShiftedSegs dx dy lines others) where
-    stands_moved : (e : LineEnd) (k : ℤ × ℤ) → Stands lines e k → Stands others e (beyond k)
+    stands_moved : (e : LineEnd) (k : ℤ × ℤ) → IsEndAt lines e k → IsEndAt others e (beyond k)
     stands_moved e k h =
         let m = get_moved lines others e.line h.line shifted h.there in
         record {
@@ -58,8 +58,8 @@ module _ (dx dy : ℤ) where
           at = point_moved (point_of h.line e.far) (point_of m.0 e.far) (end_moved h.line m.0 e.far m.2) ∙ ap beyond h.at;
         }
 
-    leads_moved : (e f : LineEnd) → Leads lines e f → Leads others e f
-    leads_moved e f h = record { spot = beyond h.spot; arrives = stands_moved (opposite e) h.spot h.arrives; leaves = stands_moved f h.spot h.leaves }
+    leads_moved : (e f : LineEnd) → LineLeadsTo lines e f → LineLeadsTo others e f
+    leads_moved e f h = record { raw_point = beyond h.raw_point; arrives = stands_moved (opposite e) h.raw_point h.arrives; leaves = stands_moved f h.raw_point h.leaves }
 
     lead_moved : (es : List LineEnd) (t : LineEnd) → LeadTo lines es t → LeadTo others es t
     lead_moved [] t h = tt

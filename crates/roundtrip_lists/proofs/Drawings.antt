@@ -1,4 +1,4 @@
--- The drawings of alike lists.
+-- The drawings of lists equal up to translation.
 use Rattle.std.proofs.Common.{◌≡◌, ◌∙◌, refl, ap, ℤ, Bool, true, false, codes, Option}
 use Rattle.sexpr_read.specs.declared.place.Span.{Span}
 use Rattle.sexpr_read.specs.Tree.{Forest, Tree, branch}
@@ -7,19 +7,19 @@ use Rattle.part_read.specs.declared.figures.Figure.TheVariants.{Line, Rect, Circ
 use Rattle.part_read.specs.declared.figures.Drawing.{Drawing}
 use Rattle.part_read.specs.declared.drawings.GraphicKind.{GraphicKind}
 use Rattle.part_read.specs.declared.drawings.GraphicKind.TheVariants.{Line as LineKind, Rect as RectKind, Circle as CircleKind, Outline as OutlineKind}
-use Rattle.part_read.specs.Numbers.{spot_of}
+use Rattle.part_read.specs.BoardNumbers.{raw_point_of}
 use Rattle.part_read.specs.Circles.{radius_between}
 use Rattle.part_read.specs.Drawings.{corners_of, width_of, fill_of, line_drawing, rect_drawing, circle_drawing, outline_drawing, drawing_of}
-use Rattle.roundtrip_lists.specs.Alike.{Shift, Alike}
+use Rattle.roundtrip_lists.specs.Translated.{Shift, Translated}
 use Rattle.roundtrip_lists.specs.Agreeing.{Agrees, Same}
-use Rattle.roundtrip_lists.specs.Moved.{IsMovedSpot}
+use Rattle.roundtrip_lists.specs.Moved.{IsMovedRawPoint}
 use Rattle.roundtrip_lists.proofs.Elements.{agrees_bind}
-use Rattle.roundtrip_lists.proofs.Spots.{spot_alike}
+use Rattle.roundtrip_lists.proofs.RawPoints.{raw_point_translated}
 use Rattle.roundtrip_lists.specs.Drawn.{AreCorners, FigureRead, DrawingRead}
-use Rattle.roundtrip_lists.proofs.Corners.{corners_alike}
-use Rattle.roundtrip_lists.proofs.Widths.{IsWide, width_alike, fill_alike}
+use Rattle.roundtrip_lists.proofs.Corners.{corners_translated}
+use Rattle.roundtrip_lists.proofs.Widths.{IsWide, width_translated, fill_translated}
 
-module _ (d : Option Shift) (i j : Forest) (s r : Span) (h : Alike d i j) where
+module _ (d : Option Shift) (i j : Forest) (s r : Span) (h : Translated d i j) where
   abbrev one : Tree
   one = branch s i
 
@@ -35,42 +35,42 @@ module _ (d : Option Shift) (i j : Forest) (s r : Span) (h : Alike d i j) where
     wide = wide.1;
   }
 
-  line_alike : Agrees (DrawingRead d) (line_drawing one) (line_drawing two)
+  line_translated : Agrees (DrawingRead d) (line_drawing one) (line_drawing two)
   unfolding line_drawing
-  line_alike =
-      agrees_bind (IsMovedSpot d) (DrawingRead d) (spot_of (codes "start") one) (spot_of (codes "start") two) _ _ (spot_alike d (codes "start") refl i j s r h) (λ a a' ea.
-      agrees_bind (IsMovedSpot d) (DrawingRead d) (spot_of (codes "end") one) (spot_of (codes "end") two) _ _ (spot_alike d (codes "end") refl i j s r h) (λ b b' eb.
-      agrees_bind IsWide (DrawingRead d) (width_of one) (width_of two) _ _ (width_alike d i j s r h) (λ w w' ew.
+  line_translated =
+      agrees_bind (IsMovedRawPoint d) (DrawingRead d) (raw_point_of (codes "start") one) (raw_point_of (codes "start") two) _ _ (raw_point_translated d (codes "start") refl i j s r h) (λ a a' ea.
+      agrees_bind (IsMovedRawPoint d) (DrawingRead d) (raw_point_of (codes "end") one) (raw_point_of (codes "end") two) _ _ (raw_point_translated d (codes "end") refl i j s r h) (λ b b' eb.
+      agrees_bind IsWide (DrawingRead d) (width_of one) (width_of two) _ _ (width_translated d i j s r h) (λ w w' ew.
       read_so (Line a b) (Line a' b') w w' true true (ea, eb) ew refl)))
 
-  rect_alike : Agrees (DrawingRead d) (rect_drawing one) (rect_drawing two)
+  rect_translated : Agrees (DrawingRead d) (rect_drawing one) (rect_drawing two)
   unfolding rect_drawing
-  rect_alike =
-      agrees_bind (IsMovedSpot d) (DrawingRead d) (spot_of (codes "start") one) (spot_of (codes "start") two) _ _ (spot_alike d (codes "start") refl i j s r h) (λ a a' ea.
-      agrees_bind (IsMovedSpot d) (DrawingRead d) (spot_of (codes "end") one) (spot_of (codes "end") two) _ _ (spot_alike d (codes "end") refl i j s r h) (λ b b' eb.
-      agrees_bind IsWide (DrawingRead d) (width_of one) (width_of two) _ _ (width_alike d i j s r h) (λ w w' ew.
-      agrees_bind Same (DrawingRead d) (fill_of false one) (fill_of false two) _ _ (fill_alike d false i j s r h) (λ f f' ef.
+  rect_translated =
+      agrees_bind (IsMovedRawPoint d) (DrawingRead d) (raw_point_of (codes "start") one) (raw_point_of (codes "start") two) _ _ (raw_point_translated d (codes "start") refl i j s r h) (λ a a' ea.
+      agrees_bind (IsMovedRawPoint d) (DrawingRead d) (raw_point_of (codes "end") one) (raw_point_of (codes "end") two) _ _ (raw_point_translated d (codes "end") refl i j s r h) (λ b b' eb.
+      agrees_bind IsWide (DrawingRead d) (width_of one) (width_of two) _ _ (width_translated d i j s r h) (λ w w' ew.
+      agrees_bind Same (DrawingRead d) (fill_of false one) (fill_of false two) _ _ (fill_translated d false i j s r h) (λ f f' ef.
       read_so (Rect a b) (Rect a' b') w w' f f' (ea, eb) ew ef))))
 
-  circle_alike : Agrees (DrawingRead d) (circle_drawing one) (circle_drawing two)
+  circle_translated : Agrees (DrawingRead d) (circle_drawing one) (circle_drawing two)
   unfolding circle_drawing
-  circle_alike =
-      agrees_bind (IsMovedSpot d) (DrawingRead d) (spot_of (codes "center") one) (spot_of (codes "center") two) _ _ (spot_alike d (codes "center") refl i j s r h) (λ a a' ea.
-      agrees_bind (IsMovedSpot d) (DrawingRead d) (spot_of (codes "end") one) (spot_of (codes "end") two) _ _ (spot_alike d (codes "end") refl i j s r h) (λ b b' eb.
-      agrees_bind IsWide (DrawingRead d) (width_of one) (width_of two) _ _ (width_alike d i j s r h) (λ w w' ew.
-      agrees_bind Same (DrawingRead d) (fill_of false one) (fill_of false two) _ _ (fill_alike d false i j s r h) (λ f f' ef.
+  circle_translated =
+      agrees_bind (IsMovedRawPoint d) (DrawingRead d) (raw_point_of (codes "center") one) (raw_point_of (codes "center") two) _ _ (raw_point_translated d (codes "center") refl i j s r h) (λ a a' ea.
+      agrees_bind (IsMovedRawPoint d) (DrawingRead d) (raw_point_of (codes "end") one) (raw_point_of (codes "end") two) _ _ (raw_point_translated d (codes "end") refl i j s r h) (λ b b' eb.
+      agrees_bind IsWide (DrawingRead d) (width_of one) (width_of two) _ _ (width_translated d i j s r h) (λ w w' ew.
+      agrees_bind Same (DrawingRead d) (fill_of false one) (fill_of false two) _ _ (fill_translated d false i j s r h) (λ f f' ef.
       read_so (Circle a (radius_between a b)) (Circle a' (radius_between a' b')) w w' f f' (record { centers = ea; end = b; new_end = b'; ends = eb; is = refl; new_is = refl }) ew ef))))
 
-  outline_alike : Agrees (DrawingRead d) (outline_drawing one) (outline_drawing two)
+  outline_translated : Agrees (DrawingRead d) (outline_drawing one) (outline_drawing two)
   unfolding outline_drawing
-  outline_alike =
-      agrees_bind (AreCorners d) (DrawingRead d) (corners_of one) (corners_of two) _ _ (corners_alike d i j s r h) (λ a a' ea.
-      agrees_bind IsWide (DrawingRead d) (width_of one) (width_of two) _ _ (width_alike d i j s r h) (λ w w' ew.
-      agrees_bind Same (DrawingRead d) (fill_of true one) (fill_of true two) _ _ (fill_alike d true i j s r h) (λ f f' ef.
+  outline_translated =
+      agrees_bind (AreCorners d) (DrawingRead d) (corners_of one) (corners_of two) _ _ (corners_translated d i j s r h) (λ a a' ea.
+      agrees_bind IsWide (DrawingRead d) (width_of one) (width_of two) _ _ (width_translated d i j s r h) (λ w w' ew.
+      agrees_bind Same (DrawingRead d) (fill_of true one) (fill_of true two) _ _ (fill_translated d true i j s r h) (λ f f' ef.
       read_so (Outline a) (Outline a') w w' f f' ea ew ef)))
 
-  pub drawing_alike : (kind : GraphicKind) → Agrees (DrawingRead d) (drawing_of kind one) (drawing_of kind two)
-  drawing_alike LineKind = line_alike
-  drawing_alike RectKind = rect_alike
-  drawing_alike CircleKind = circle_alike
-  drawing_alike OutlineKind = outline_alike
+  pub drawing_translated : (kind : GraphicKind) → Agrees (DrawingRead d) (drawing_of kind one) (drawing_of kind two)
+  drawing_translated LineKind = line_translated
+  drawing_translated RectKind = rect_translated
+  drawing_translated CircleKind = circle_translated
+  drawing_translated OutlineKind = outline_translated

@@ -1,6 +1,6 @@
 pub mod Elements
 pub mod Numbers
-pub mod Spots
+pub mod RawPoints
 pub mod Shapes
 pub mod Numerals
 pub mod Moving

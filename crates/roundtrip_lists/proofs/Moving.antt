@@ -1,17 +1,17 @@
--- What is moved is alike, and may be written.
+-- What is moved is equal up to translation, and may be written.
 use Rattle.std.proofs.Common.{◌≡◌, ◌∙◌, refl, sym, ap, subst, ℕ, ◌≤◌, ℤ, ◌+ℤ◌, unsigned_abs, Bool, true, false, List, Option, None, Some, Result, Ok, Err, inl, inr}
 use Rattle.std.proofs.lemmas.Bool.{ltb-false}
 use Rattle.exact_dec.specs.declared.DecError.{DecError}
 use Rattle.exact_dec.specs.Computed.{mm_cut_answer}
-use Rattle.exact_dec.specs.Reading.{is_far}
-use Rattle.exact_dec.specs.Written.{mm_text}
+use Rattle.exact_dec.specs.DecimalAnswers.{is_far}
+use Rattle.exact_dec.specs.MillimetreText.{mm_text}
 use Rattle.exact_dec.proofs.ReadBack.{read_back}
 use Rattle.sexpr_read.specs.declared.place.Span.{Span}
 use Rattle.sexpr_read.specs.Tree.{Forest, none, atom, list, leaf, value}
 use Rattle.roundtrip_text.specs.Pieces.{SameTrees}
-use Rattle.roundtrip_text.specs.Anew.{IsRespelled, AreAtoms}
+use Rattle.roundtrip_text.specs.RewrittenText.{IsRespelled, AreAtoms}
 use Rattle.roundtrip_text.specs.Utf8.{AreUtf8}
-use Rattle.roundtrip_lists.specs.Alike.{Shift, is_place_head, moved_by, both, moved_numbers, if_place, place_moved, IsPlaceMoved, AlikeInside, Alike}
+use Rattle.roundtrip_lists.specs.Translated.{Shift, is_place_head, moved_by, both, moved_numbers, if_place, place_moved, IsPlaceMoved, TranslatedInside, Translated}
 use Rattle.roundtrip_lists.specs.Moving.{put_second, put_first, put_numbers, put_if, moved}
 use Rattle.roundtrip_lists.proofs.Numerals.{number_content, number_utf8}
 
@@ -54,9 +54,9 @@ if_some false o n h = absurd cc
 no_numbers : (b : Bool) (n : ℤ × ℤ) → if_place b None ≡ Some n → ⊥
 no_numbers b n h = let k = (if_some b None n h).1 in cc
 
--- ---- places that are moved are alike
+-- ---- places that are moved are equal up to translation
 
--- a place with its numbers written anew
+-- a place with its numbers rewritten
 numbers_put : (d : Shift) (s t u : Span) (q r p : Bool) (c x y : List ℕ) (others rest : Forest) (n : ℤ × ℤ) → place_moved d (atom s q c (atom t r x (atom u p y others))) ≡ Some n
     → IsPlaceMoved d (atom s q c (atom t r x (atom u p y others))) (atom s q c (atom t r (mm_text n.0) (atom u p (mm_text n.1) rest)))
 numbers_put d s t u q r p c x y others rest n h =
@@ -87,16 +87,16 @@ numbers_put d s t u q r p c x y others rest n h =
       moved_y = read_back n.1 b.near ∙ ap (λ (z : ℤ). Ok z) b.is;
     }
 
-place_alike : (d : Shift) (i : Forest) (n : ℤ × ℤ) → place_moved d i ≡ Some n → IsPlaceMoved d i (put_numbers n (moved d i))
-place_alike d none n h = absurd cc
-place_alike d (list s inside others) n h = absurd cc
-place_alike d (atom s q c none) n h = absurd (no_numbers (is_place_head (value (leaf s q c))) n h)
-place_alike d (atom s q c (list t inside others)) n h = absurd (no_numbers (is_place_head (value (leaf s q c))) n h)
-place_alike d (atom s q c (atom t r x none)) n h = absurd (no_numbers (is_place_head (value (leaf s q c))) n h)
-place_alike d (atom s q c (atom t r x (list u inside others))) n h = absurd (no_numbers (is_place_head (value (leaf s q c))) n h)
-place_alike d (atom s q c (atom t r x (atom u p y others))) n h = numbers_put d s t u q r p c x y others (moved d others) n h
+place_translated : (d : Shift) (i : Forest) (n : ℤ × ℤ) → place_moved d i ≡ Some n → IsPlaceMoved d i (put_numbers n (moved d i))
+place_translated d none n h = absurd cc
+place_translated d (list s inside others) n h = absurd cc
+place_translated d (atom s q c none) n h = absurd (no_numbers (is_place_head (value (leaf s q c))) n h)
+place_translated d (atom s q c (list t inside others)) n h = absurd (no_numbers (is_place_head (value (leaf s q c))) n h)
+place_translated d (atom s q c (atom t r x none)) n h = absurd (no_numbers (is_place_head (value (leaf s q c))) n h)
+place_translated d (atom s q c (atom t r x (list u inside others))) n h = absurd (no_numbers (is_place_head (value (leaf s q c))) n h)
+place_translated d (atom s q c (atom t r x (atom u p y others))) n h = numbers_put d s t u q r p c x y others (moved d others) n h
 
--- only the numbers are written anew
+-- only the numbers are rewritten
 pub place_put : (d : Shift) (i : Forest) (n : ℤ × ℤ) → place_moved d i ≡ Some n → IsPlaceMoved d i (put_numbers n i)
 place_put d none n h = absurd cc
 place_put d (list s inside others) n h = absurd cc
@@ -106,14 +106,14 @@ place_put d (atom s q c (atom t r x none)) n h = absurd (no_numbers (is_place_he
 place_put d (atom s q c (atom t r x (list u inside others))) n h = absurd (no_numbers (is_place_head (value (leaf s q c))) n h)
 place_put d (atom s q c (atom t r x (atom u p y others))) n h = numbers_put d s t u q r p c x y others others n h
 
-inside_alike : (d : Shift) (i : Forest) (o : Option (ℤ × ℤ)) → place_moved d i ≡ o → Alike (Some d) i (moved d i) → AlikeInside (Some d) i (put_if o (moved d i)) (Alike (Some d) i (put_if o (moved d i)))
-inside_alike d i None e h = inl (h, e)
-inside_alike d i (Some n) e h = inr (place_alike d i n e)
+inside_translated : (d : Shift) (i : Forest) (o : Option (ℤ × ℤ)) → place_moved d i ≡ o → Translated (Some d) i (moved d i) → TranslatedInside (Some d) i (put_if o (moved d i)) (Translated (Some d) i (put_if o (moved d i)))
+inside_translated d i None e h = inl (h, e)
+inside_translated d i (Some n) e h = inr (place_translated d i n e)
 
-pub moved_alike : (d : Shift) (f : Forest) → Alike (Some d) f (moved d f)
-moved_alike d none = tt
-moved_alike d (atom s q c others) = (refl, refl, moved_alike d others)
-moved_alike d (list s inside others) = (inside_alike d inside (place_moved d inside) refl (moved_alike d inside), moved_alike d others)
+pub moved_translated : (d : Shift) (f : Forest) → Translated (Some d) f (moved d f)
+moved_translated d none = tt
+moved_translated d (atom s q c others) = (refl, refl, moved_translated d others)
+moved_translated d (list s inside others) = (inside_translated d inside (place_moved d inside) refl (moved_translated d inside), moved_translated d others)
 
 -- ---- and may be written
 
@@ -183,7 +183,7 @@ moved_utf8 d none h = tt
 moved_utf8 d (atom s q c others) h = (h.0, moved_utf8 d others h.1)
 moved_utf8 d (list s inside others) h = (inside_utf8 d inside (place_moved d inside) refl (moved_utf8 d inside h.0), moved_utf8 d others h.1)
 
--- ---- and what is the same but for spans is alike too
+-- ---- and what is the same but for spans is equal up to translation too
 
 pub moved_same : (d : Shift) (i g h : Forest) → IsPlaceMoved d i g → SameTrees g h → IsPlaceMoved d i h
 moved_same d i g h p same = by_shape h (subst (λ (x : Forest). SameTrees x h) p.is same)
@@ -222,26 +222,26 @@ moved_same d i g h p same = by_shape h (subst (λ (x : Forest). SameTrees x h) p
       moved_y = p.moved_y;
     }
 
-pub alike_same : (d : Option Shift) (f g h : Forest) → Alike d f g → SameTrees g h → Alike d f h
-alike_same d none none none k same = tt
-alike_same d none none (atom t r c rest) k same = absurd same
-alike_same d none none (list t within rest) k same = absurd same
-alike_same d none (atom t r c rest) h k same = absurd k
-alike_same d none (list t within rest) h k same = absurd k
-alike_same d (atom s q c others) none h k same = absurd k
-alike_same d (atom s q c others) (list t within rest) h k same = absurd k
-alike_same d (atom s q c others) (atom t r e rest) none k same = absurd same
-alike_same d (atom s q c others) (atom t r e rest) (list u more last) k same = absurd same
-alike_same d (atom s q c others) (atom t r e rest) (atom u p x last) k same = (k.0 ∙ same.0, k.1 ∙ same.1, alike_same d others rest last k.2 same.2)
-alike_same d (list s inside others) none h k same = absurd k
-alike_same d (list s inside others) (atom t r e rest) h k same = absurd k
-alike_same d (list s inside others) (list t within rest) none k same = absurd same
-alike_same d (list s inside others) (list t within rest) (atom u p x last) k same = absurd same
-alike_same None (list s inside others) (list t within rest) (list u more last) k same = (alike_same None inside within more k.0 same.0, alike_same None others rest last k.1 same.1)
-alike_same (Some d) (list s inside others) (list t within rest) (list u more last) (inl kept, k) same = (inl (alike_same (Some d) inside within more kept.0 same.0, kept.1), alike_same (Some d) others rest last k same.1)
-alike_same (Some d) (list s inside others) (list t within rest) (list u more last) (inr new, k) same = (inr (moved_same d inside within more new same.0), alike_same (Some d) others rest last k same.1)
+pub translated_same : (d : Option Shift) (f g h : Forest) → Translated d f g → SameTrees g h → Translated d f h
+translated_same d none none none k same = tt
+translated_same d none none (atom t r c rest) k same = absurd same
+translated_same d none none (list t within rest) k same = absurd same
+translated_same d none (atom t r c rest) h k same = absurd k
+translated_same d none (list t within rest) h k same = absurd k
+translated_same d (atom s q c others) none h k same = absurd k
+translated_same d (atom s q c others) (list t within rest) h k same = absurd k
+translated_same d (atom s q c others) (atom t r e rest) none k same = absurd same
+translated_same d (atom s q c others) (atom t r e rest) (list u more last) k same = absurd same
+translated_same d (atom s q c others) (atom t r e rest) (atom u p x last) k same = (k.0 ∙ same.0, k.1 ∙ same.1, translated_same d others rest last k.2 same.2)
+translated_same d (list s inside others) none h k same = absurd k
+translated_same d (list s inside others) (atom t r e rest) h k same = absurd k
+translated_same d (list s inside others) (list t within rest) none k same = absurd same
+translated_same d (list s inside others) (list t within rest) (atom u p x last) k same = absurd same
+translated_same None (list s inside others) (list t within rest) (list u more last) k same = (translated_same None inside within more k.0 same.0, translated_same None others rest last k.1 same.1)
+translated_same (Some d) (list s inside others) (list t within rest) (list u more last) (inl kept, k) same = (inl (translated_same (Some d) inside within more kept.0 same.0, kept.1), translated_same (Some d) others rest last k same.1)
+translated_same (Some d) (list s inside others) (list t within rest) (list u more last) (inr new, k) same = (inr (moved_same d inside within more new same.0), translated_same (Some d) others rest last k same.1)
 
-pub alike_itself : (f : Forest) → Alike None f f
-alike_itself none = tt
-alike_itself (atom s q c others) = (refl, refl, alike_itself others)
-alike_itself (list s inside others) = (alike_itself inside, alike_itself others)
+pub translated_itself : (f : Forest) → Translated None f f
+translated_itself none = tt
+translated_itself (atom s q c others) = (refl, refl, translated_itself others)
+translated_itself (list s inside others) = (translated_itself inside, translated_itself others)

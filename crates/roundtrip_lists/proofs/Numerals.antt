@@ -10,11 +10,11 @@ use Rattle.std.proofs.lemmas.Nat.{mod_below}
 use Rattle.std.proofs.lemmas.Str.Parse.{IsNumeralModel, numerals_by_weight, tells_all_ascii_digits}
 use Rattle.std.proofs.lemmas.Str.{IsUtf8-append, IsUtf8-nil}
 use Rattle.exact_dec.specs.Decimal.{number}
-use Rattle.exact_dec.specs.Written.{minus_sign, six_digits, mm_text}
+use Rattle.exact_dec.specs.MillimetreText.{minus_sign, six_digits, mm_text}
 use Rattle.sexpr_read.specs.declared.bytes.ByteClass.TheVariants.{Plain}
-use Rattle.sexpr_read.specs.Bytes.{class_of, is_word, is_itself}
-use Rattle.roundtrip_text.specs.Pieces.{AreOfWord, IsInside, IsContentOf}
-use Rattle.roundtrip_text.specs.Pieces.IsInside.{empty, itself}
+use Rattle.sexpr_read.specs.ByteClasses.{class_of, is_word, is_itself}
+use Rattle.roundtrip_text.specs.Pieces.{AreOfWord, IsQuotedContent, IsContentOf}
+use Rattle.roundtrip_text.specs.Pieces.IsQuotedContent.{empty, itself}
 use Rattle.roundtrip_text.proofs.Utf8.{low_utf8}
 
 -- plain bytes of ASCII
@@ -81,7 +81,7 @@ low_word : (bytes : List ℕ) → AreLow bytes → AreOfWord bytes
 low_word [] h = tt
 low_word (b ∷ bytes) h = (ap is_word h.0, low_word bytes h.2)
 
-low_inside : (bytes : List ℕ) → AreLow bytes → IsInside bytes
+low_inside : (bytes : List ℕ) → AreLow bytes → IsQuotedContent bytes
 low_inside [] h = empty
 low_inside (b ∷ bytes) h = itself (ap is_itself h.0) (low_inside bytes h.2)
 

@@ -13,26 +13,26 @@ use Rattle.board_items.specs.declared.item.What.TheVariants.{Graphic, Edge}
 use Rattle.board_items.specs.declared.item.Item.{Item}
 use Rattle.copper_layers.specs.Layers.{single_layer}
 use Rattle.board_items.specs.Boards.{PlainBoard, is_on_board}
-use Rattle.part_read.specs.declared.numbers.Spot.{Spot}
-use Rattle.part_read.specs.declared.stances.Stance.{Stance}
+use Rattle.part_read.specs.declared.numbers.RawPoint.{RawPoint}
+use Rattle.part_read.specs.declared.placements.Placement.{Placement}
 use Rattle.part_read.specs.declared.figures.Figure.{Figure}
 use Rattle.part_read.specs.declared.figures.Figure.TheVariants.{Line, Rect, Circle, Outline}
 use Rattle.part_read.specs.declared.figures.Drawing.{Drawing}
 use Rattle.part_read.specs.declared.drawings.GraphicKind.{GraphicKind}
 use Rattle.part_read.specs.declared.drawings.GraphicKind.TheVariants.{Line as LineKind, Rect as RectKind, Circle as CircleKind, Outline as OutlineKind}
-use Rattle.part_read.specs.declared.graphics.Ground.{Ground}
-use Rattle.part_read.specs.declared.graphics.Ground.TheVariants.{Copper, Outlines, Front, Back, Elsewhere}
-use Rattle.list_read.specs.Answers.{◌>>=◌, needed, check}
-use Rattle.list_read.specs.Heads.{place}
-use Rattle.list_read.specs.Elements.{element}
-use Rattle.part_read.specs.Elements.{name_among, name_in}
+use Rattle.part_read.specs.declared.graphics.LayerRole.{LayerRole}
+use Rattle.part_read.specs.declared.graphics.LayerRole.TheVariants.{Copper, Outlines, Front, Back, Elsewhere}
+use Rattle.list_read.specs.FirstRefusals.{◌>>=◌, needed, check}
+use Rattle.list_read.specs.ListHeads.{place}
+use Rattle.list_read.specs.NamedElements.{element}
+use Rattle.part_read.specs.ElementResults.{name_among, name_in}
 use Rattle.plain_types.specs.Lengths.{is_length}
 use Rattle.part_read.specs.OnBoard.{tested, fits_board, point_at}
 use Rattle.part_read.specs.NetsOf.{net_of}
-use Rattle.part_read.specs.Numbers.{spot_of}
-use Rattle.part_read.specs.Stances.{stood, point_stood, points_stood}
-use Rattle.part_read.specs.Figures.{cores_of, drawn, drawn_edge, first_of, first_spot, is_ring, is_circle}
-use Rattle.part_read.specs.Drawings.{spots_among, enough, corners_in, corners_of, width_of, fill_of, line_drawing, rect_drawing, circle_drawing, outline_drawing, drawing_of}
+use Rattle.part_read.specs.BoardNumbers.{raw_point_of}
+use Rattle.part_read.specs.Placements.{stood, point_stood, points_stood}
+use Rattle.part_read.specs.Figures.{cores_of, drawn, drawn_edge, first_of, first_raw_point, is_ring, is_circle}
+use Rattle.part_read.specs.Drawings.{raw_points_among, enough, corners_in, corners_of, width_of, fill_of, line_drawing, rect_drawing, circle_drawing, outline_drawing, drawing_of}
 use Rattle.part_read.specs.PlainItems.{plain_item}
 use Rattle.part_read.specs.Graphics.{copper_graphic, edge_graphic, note_of, one_item, graphic_by, curve_by, text_by}
 use Rattle.part_read.proofs.There.{map_some, both_some}
@@ -62,22 +62,22 @@ none_of unit items f = subst (λ (is : List Item). ItemsOf unit is) f tt
 
 -- ---- outlines have a first spot
 
-pub started_by : (e : BoardError) (spots corners : List Spot) (b : Bool) → leb 3 (length spots) ≡ b → (check e b >>= λ _. Ok spots) ≡ Ok corners → 1 ≤ length corners
-started_by e spots corners true k h =
-    let same : spots ≡ corners = same_ok h in
-    let some = leb-true 3 (length spots) k in
-    subst (λ (ss : List Spot). 1 ≤ length ss) same (omega (arith, some))
-started_by e spots corners false k h = absurd cc
+pub started_by : (e : BoardError) (raw_points corners : List RawPoint) (b : Bool) → leb 3 (length raw_points) ≡ b → (check e b >>= λ _. Ok raw_points) ≡ Ok corners → 1 ≤ length corners
+started_by e raw_points corners true k h =
+    let same : raw_points ≡ corners = same_ok h in
+    let some = leb-true 3 (length raw_points) k in
+    subst (λ (ss : List RawPoint). 1 ≤ length ss) same (omega (arith, some))
+started_by e raw_points corners false k h = absurd cc
 
-pub corners_started : (tree : Tree) (corners : List Spot) → corners_of tree ≡ Ok corners → 1 ≤ length corners
+pub corners_started : (tree : Tree) (corners : List RawPoint) → corners_of tree ≡ Ok corners → 1 ≤ length corners
 unfolding corners_in
 corners_started tree corners h =
     let a = both_ok (needed _ (element (codes "pts") tree)) corners_in corners h in
-    let b = both_ok (spots_among false (parts a.0)) (enough a.0) corners a.1.1 in
+    let b = both_ok (raw_points_among false (parts a.0)) (enough a.0) corners a.1.1 in
     started_by (Missing (place a.0)) b.0 corners (leb 3 (length b.0)) refl b.1.1
 
 abbrev IsStarted : Figure → Type 0
-IsStarted (Outline spots) = 1 ≤ length spots
+IsStarted (Outline raw_points) = 1 ≤ length raw_points
 IsStarted figure = Unit {0}
 
 moved_start : {d e : Drawing} → d ≡ e → IsStarted d.figure → IsStarted e.figure
@@ -86,19 +86,19 @@ moved_start {d} {e} h k = subst (λ (x : Drawing). IsStarted x.figure) h k
 drawing_started : (kind : GraphicKind) (tree : Tree) (d : Drawing) → drawing_of kind tree ≡ Ok d → IsStarted d.figure
 unfolding line_drawing rect_drawing circle_drawing outline_drawing
 drawing_started LineKind tree d h =
-    let a = both_ok (spot_of (codes "start") tree) _ d h in
-    let b = both_ok (spot_of (codes "end") tree) _ d a.1.1 in
+    let a = both_ok (raw_point_of (codes "start") tree) _ d h in
+    let b = both_ok (raw_point_of (codes "end") tree) _ d a.1.1 in
     let c = both_ok (width_of tree) _ d b.1.1 in
     moved_start (same_ok c.1.1) tt
 drawing_started RectKind tree d h =
-    let a = both_ok (spot_of (codes "start") tree) _ d h in
-    let b = both_ok (spot_of (codes "end") tree) _ d a.1.1 in
+    let a = both_ok (raw_point_of (codes "start") tree) _ d h in
+    let b = both_ok (raw_point_of (codes "end") tree) _ d a.1.1 in
     let c = both_ok (width_of tree) _ d b.1.1 in
     let f = both_ok (fill_of false tree) _ d c.1.1 in
     moved_start (same_ok f.1.1) tt
 drawing_started CircleKind tree d h =
-    let a = both_ok (spot_of (codes "center") tree) _ d h in
-    let b = both_ok (spot_of (codes "end") tree) _ d a.1.1 in
+    let a = both_ok (raw_point_of (codes "center") tree) _ d h in
+    let b = both_ok (raw_point_of (codes "end") tree) _ d a.1.1 in
     let c = both_ok (width_of tree) _ d b.1.1 in
     let f = both_ok (fill_of false tree) _ d c.1.1 in
     moved_start (same_ok f.1.1) tt
@@ -110,52 +110,52 @@ drawing_started OutlineKind tree d h =
 
 -- ---- the first spot of what is drawn lies on the board
 
-point_near : (stance : Stance) (s : Spot) (p : Point) → point_stood stance s ≡ Some p → fits_board (stood stance s) ≡ true
-point_near stance s p h = (made_of (fits_board (stood stance s)) (point_at (stood stance s)) p h).0
+point_near : (placement : Placement) (s : RawPoint) (p : Point) → point_stood placement s ≡ Some p → fits_board (stood placement s) ≡ true
+point_near placement s p h = (made_of (fits_board (stood placement s)) (point_at (stood placement s)) p h).0
 
-spots_near : (stance : Stance) (spots : List Spot) (ps : List Point) → 1 ≤ length spots → points_stood stance spots ≡ Some ps → fits_board (stood stance (first_of spots)) ≡ true
-spots_near stance [] ps n h = absurd (omega (arith, n))
-spots_near stance (s ∷ ss) ps n h = let found = both_some _ _ _ ps h in point_near stance s found.0 found.2
+raw_points_near : (placement : Placement) (raw_points : List RawPoint) (ps : List Point) → 1 ≤ length raw_points → points_stood placement raw_points ≡ Some ps → fits_board (stood placement (first_of raw_points)) ≡ true
+raw_points_near placement [] ps n h = absurd (omega (arith, n))
+raw_points_near placement (s ∷ ss) ps n h = let found = both_some _ _ _ ps h in point_near placement s found.0 found.2
 
-figure_near : (stance : Stance) (filled : Bool) (figure : Figure) (cores : List Core) → IsStarted figure → cores_of stance filled figure ≡ Some cores → fits_board (stood stance (first_spot figure)) ≡ true
-figure_near stance filled (Line a b) cores s h = let found = both_some _ _ _ cores h in point_near stance a found.0 found.2
-figure_near stance filled (Rect a b) cores s h = let found = both_some _ _ _ cores h in point_near stance a found.0 found.2
-figure_near stance filled (Circle c r) cores s h = let found = both_some _ _ _ cores h in point_near stance c found.0 found.2
-figure_near stance filled (Outline spots) cores s h = let found = map_some _ _ cores h in spots_near stance spots found.0 s found.1
+figure_near : (placement : Placement) (filled : Bool) (figure : Figure) (cores : List Core) → IsStarted figure → cores_of placement filled figure ≡ Some cores → fits_board (stood placement (first_raw_point figure)) ≡ true
+figure_near placement filled (Line a b) cores s h = let found = both_some _ _ _ cores h in point_near placement a found.0 found.2
+figure_near placement filled (Rect a b) cores s h = let found = both_some _ _ _ cores h in point_near placement a found.0 found.2
+figure_near placement filled (Circle c r) cores s h = let found = both_some _ _ _ cores h in point_near placement c found.0 found.2
+figure_near placement filled (Outline raw_points) cores s h = let found = map_some _ _ cores h in raw_points_near placement raw_points found.0 s found.1
 
-drawn_near : (layers : LayerSet) (stance : Stance) (d : Drawing) (ps : List Part) → IsStarted d.figure → drawn layers stance d ≡ Some ps → fits_board (stood stance (first_spot d.figure)) ≡ true
-drawn_near layers stance d ps s h =
-    let m = both_some _ _ _ ps h in figure_near stance d.filled d.figure m.1 s m.3
+drawn_near : (layers : LayerSet) (placement : Placement) (d : Drawing) (ps : List Part) → IsStarted d.figure → drawn layers placement d ≡ Some ps → fits_board (stood placement (first_raw_point d.figure)) ≡ true
+drawn_near layers placement d ps s h =
+    let m = both_some _ _ _ ps h in figure_near placement d.filled d.figure m.1 s m.3
 
-edge_drawn : (stance : Stance) (d : Drawing) (ps : List Part) (b : Bool) → is_length d.width ≡ b
-    → cond {A = Option (List Part)} b (drawn (record { bits = 0 }) stance (record { figure = d.figure; width = pos 0; filled = false })) None ≡ Some ps
-    → drawn (record { bits = 0 }) stance (record { figure = d.figure; width = pos 0; filled = false }) ≡ Some ps
-edge_drawn stance d ps true k h = h
-edge_drawn stance d ps false k h = absurd cc
+edge_drawn : (placement : Placement) (d : Drawing) (ps : List Part) (b : Bool) → is_length d.width ≡ b
+    → cond {A = Option (List Part)} b (drawn (record { bits = 0 }) placement (record { figure = d.figure; width = pos 0; filled = false })) None ≡ Some ps
+    → drawn (record { bits = 0 }) placement (record { figure = d.figure; width = pos 0; filled = false }) ≡ Some ps
+edge_drawn placement d ps true k h = h
+edge_drawn placement d ps false k h = absurd cc
 
 -- ---- items
 
-copper_of : (board : PlainBoard) (unit : ℕ) (stance : Stance) (kind : GraphicKind) (layer : ℕ) (tree : Tree) (item : Item) → copper_graphic board unit stance kind layer tree ≡ Ok item → ItemsOf unit (item ∷ [])
+copper_of : (board : PlainBoard) (unit : ℕ) (placement : Placement) (kind : GraphicKind) (layer : ℕ) (tree : Tree) (item : Item) → copper_graphic board unit placement kind layer tree ≡ Ok item → ItemsOf unit (item ∷ [])
 unfolding copper_graphic
-copper_of board unit stance kind layer tree item h =
+copper_of board unit placement kind layer tree item h =
     let a = both_ok (drawing_of kind tree) _ item h in
     let b = both_ok (net_of board tree) _ item a.1.1 in
     let c = both_ok (check (Ring (place tree)) (not (is_ring a.0))) _ item b.1.1 in
-    let d = both_ok (needed (OutOfBoard (place tree)) (drawn (single_layer layer) stance a.0)) _ item c.1.1 in
-    let drew = needed_ok (OutOfBoard (place tree)) (drawn (single_layer layer) stance a.0) d.0 d.1.0 in
-    let near = drawn_near (single_layer layer) stance a.0 d.0 (drawing_started kind tree a.0 a.1.0) drew in
-    one_of unit item (plain_item (name_in tree) unit b.0 (stood stance (first_spot a.0.figure)) d.0 Graphic refl) (item ∷ []) (same_ok d.1.1) refl refl near
+    let d = both_ok (needed (OutOfBoard (place tree)) (drawn (single_layer layer) placement a.0)) _ item c.1.1 in
+    let drew = needed_ok (OutOfBoard (place tree)) (drawn (single_layer layer) placement a.0) d.0 d.1.0 in
+    let near = drawn_near (single_layer layer) placement a.0 d.0 (drawing_started kind tree a.0 a.1.0) drew in
+    one_of unit item (plain_item (name_in tree) unit b.0 (stood placement (first_raw_point a.0.figure)) d.0 Graphic refl) (item ∷ []) (same_ok d.1.1) refl refl near
 
-edge_of : (unit : ℕ) (stance : Stance) (kind : GraphicKind) (tree : Tree) (item : Item) → edge_graphic unit stance kind tree ≡ Ok item → ItemsOf unit (item ∷ [])
+edge_of : (unit : ℕ) (placement : Placement) (kind : GraphicKind) (tree : Tree) (item : Item) → edge_graphic unit placement kind tree ≡ Ok item → ItemsOf unit (item ∷ [])
 unfolding edge_graphic
-edge_of unit stance kind tree item h =
+edge_of unit placement kind tree item h =
     let a = both_ok (drawing_of kind tree) _ item h in
     let b = both_ok (check (Ring (place tree)) (not (is_circle a.0.figure))) _ item a.1.1 in
-    let c = both_ok (needed (OutOfBoard (place tree)) (drawn_edge stance a.0)) _ item b.1.1 in
-    let drew = edge_drawn stance a.0 c.0 (is_length a.0.width) refl (needed_ok (OutOfBoard (place tree)) (drawn_edge stance a.0) c.0 c.1.0) in
+    let c = both_ok (needed (OutOfBoard (place tree)) (drawn_edge placement a.0)) _ item b.1.1 in
+    let drew = edge_drawn placement a.0 c.0 (is_length a.0.width) refl (needed_ok (OutOfBoard (place tree)) (drawn_edge placement a.0) c.0 c.1.0) in
     let lines : Drawing = record { figure = a.0.figure; width = pos 0; filled = false } in
-    let near = drawn_near (record { bits = 0 }) stance lines c.0 (drawing_started kind tree a.0 a.1.0) drew in
-    one_of unit item (plain_item (name_in tree) unit 0 (stood stance (first_spot a.0.figure)) [] (Edge c.0) refl) (item ∷ []) (same_ok c.1.1) refl refl near
+    let near = drawn_near (record { bits = 0 }) placement lines c.0 (drawing_started kind tree a.0 a.1.0) drew in
+    one_of unit item (plain_item (name_in tree) unit 0 (stood placement (first_raw_point a.0.figure)) [] (Edge c.0) refl) (item ∷ []) (same_ok c.1.1) refl refl near
 
 -- the items of an answer that gives one
 pub one_item_of : (unit : ℕ) (answer : Result Item BoardError) (items : List Item) → ((item : Item) → answer ≡ Ok item → ItemsOf unit (item ∷ [])) → one_item answer ≡ Ok items → ItemsOf unit items
@@ -163,17 +163,17 @@ one_item_of unit answer items law h =
     let a = both_ok answer _ items h in
     subst (λ (is : List Item). ItemsOf unit is) (same_ok a.1.1) (law a.0 a.1.0)
 
-pub graphic_of : (board : PlainBoard) (unit : ℕ) (stance : Stance) (kind : GraphicKind) (tree : Tree) (lies : Ground) (items : List Item) → graphic_by board unit stance kind tree lies ≡ Ok items → ItemsOf unit items
-graphic_of board unit stance kind tree (Copper layer) items h = one_item_of unit (copper_graphic board unit stance kind layer tree) items (λ item e. copper_of board unit stance kind layer tree item e) h
-graphic_of board unit stance kind tree Outlines items h = one_item_of unit (edge_graphic unit stance kind tree) items (λ item e. edge_of unit stance kind tree item e) h
-graphic_of board unit stance kind tree Front items h = none_of unit items (same_ok h)
-graphic_of board unit stance kind tree Back items h = none_of unit items (same_ok h)
-graphic_of board unit stance kind tree Elsewhere items h = none_of unit items (same_ok h)
+pub graphic_of : (board : PlainBoard) (unit : ℕ) (placement : Placement) (kind : GraphicKind) (tree : Tree) (lies : LayerRole) (items : List Item) → graphic_by board unit placement kind tree lies ≡ Ok items → ItemsOf unit items
+graphic_of board unit placement kind tree (Copper layer) items h = one_item_of unit (copper_graphic board unit placement kind layer tree) items (λ item e. copper_of board unit placement kind layer tree item e) h
+graphic_of board unit placement kind tree Outlines items h = one_item_of unit (edge_graphic unit placement kind tree) items (λ item e. edge_of unit placement kind tree item e) h
+graphic_of board unit placement kind tree Front items h = none_of unit items (same_ok h)
+graphic_of board unit placement kind tree Back items h = none_of unit items (same_ok h)
+graphic_of board unit placement kind tree Elsewhere items h = none_of unit items (same_ok h)
 
 pub note_stands : (unit : ℕ) (name : List ℕ) (about : About) (layer : List ℕ) → ItemsOf unit (note_of name unit about layer ∷ [])
 note_stands unit name about layer = (refl, refl, tt)
 
-pub text_of_unit : (unit : ℕ) (about : About) (tree : Tree) (lies : Ground) (items : List Item) → text_by unit about tree lies ≡ Ok items → ItemsOf unit items
+pub text_of_unit : (unit : ℕ) (about : About) (tree : Tree) (lies : LayerRole) (items : List Item) → text_by unit about tree lies ≡ Ok items → ItemsOf unit items
 text_of_unit unit about tree (Copper layer) items h =
     subst (λ (is : List Item). ItemsOf unit is) (same_ok h) (note_stands unit (name_in tree) about (name_among (element (codes "layer") tree)))
 text_of_unit unit about tree Outlines items h = none_of unit items (same_ok h)
@@ -181,7 +181,7 @@ text_of_unit unit about tree Front items h = none_of unit items (same_ok h)
 text_of_unit unit about tree Back items h = none_of unit items (same_ok h)
 text_of_unit unit about tree Elsewhere items h = none_of unit items (same_ok h)
 
-pub curve_of_unit : (unit : ℕ) (tree : Tree) (lies : Ground) (items : List Item) → curve_by tree lies ≡ Ok items → ItemsOf unit items
+pub curve_of_unit : (unit : ℕ) (tree : Tree) (lies : LayerRole) (items : List Item) → curve_by tree lies ≡ Ok items → ItemsOf unit items
 curve_of_unit unit tree (Copper layer) items h = absurd cc
 curve_of_unit unit tree Outlines items h = absurd cc
 curve_of_unit unit tree Front items h = none_of unit items (same_ok h)

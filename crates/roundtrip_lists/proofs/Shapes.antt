@@ -4,7 +4,7 @@ use Rattle.std.specs.Int.Signed.{le_z}
 use Rattle.std.proofs.Math.Dec.{T_prop}
 use Rattle.std.proofs.lemmas.Int.{ints}
 use Rattle.int_algebra.proofs.Tested.{front, back, le_by_test}
-use Rattle.exact_dec.specs.Reading.{is_far}
+use Rattle.exact_dec.specs.DecimalAnswers.{is_far}
 use Rattle.geo_seg.specs.declared.shapes.Shape.{Shape}
 use Rattle.plain_types.specs.Lengths.{IsLength, IsLengthIfSome}
 use Rattle.board_errors.specs.declared.errors.BoardError.{BoardError}
@@ -15,13 +15,13 @@ use Rattle.board_items.specs.declared.item.What.{What}
 use Rattle.board_items.specs.declared.item.Item.{Item}
 use Rattle.board_items.specs.Measures.{HasLengths}
 use Rattle.board_items.specs.Boards.{is_near}
-use Rattle.part_read.specs.declared.numbers.Spot.{Spot}
-use Rattle.list_read.specs.Answers.{◌>>=◌, needed}
+use Rattle.part_read.specs.declared.numbers.RawPoint.{RawPoint}
+use Rattle.list_read.specs.FirstRefusals.{◌>>=◌, needed}
 use Rattle.part_read.specs.OnBoard.{tested, fits_board}
-use Rattle.roundtrip_lists.specs.Alike.{Shift}
+use Rattle.roundtrip_lists.specs.Translated.{Shift}
 use Rattle.roundtrip_lists.specs.Agreeing.{Agrees}
-use Rattle.roundtrip_lists.specs.Moved.{moved_spot, IsMovedSpot}
-use Rattle.roundtrip_lists.specs.Carried.{shift_of, Leads}
+use Rattle.roundtrip_lists.specs.Moved.{moved_raw_point, IsMovedRawPoint}
+use Rattle.roundtrip_lists.specs.Carried.{shift_of, IfAccepted}
 
 -- ---- items by their fields
 
@@ -75,13 +75,13 @@ one_hole h k es el ep en =
 -- ---- answers
 
 pub leads_bind : {A B C D : Type 0} (R : A → B → Type 0) (Q : C → Result D BoardError → Type 0) (a : Result A BoardError) (b : Result B BoardError) (f : A → Result C BoardError) (g : B → Result D BoardError)
-    → Agrees R a b → ((x : A) (y : B) → R x y → Leads Q (f x) (g y)) → Leads Q (a >>= f) (b >>= g)
+    → Agrees R a b → ((x : A) (y : B) → R x y → IfAccepted Q (f x) (g y)) → IfAccepted Q (a >>= f) (b >>= g)
 leads_bind R Q (Ok x) (Ok y) f g h k = k x y h
 leads_bind R Q (Ok x) (Err e) f g h k = absurd h
 leads_bind R Q (Err e) b f g h k = tt
 
 pub leads_tested : {A B : Type 0} (Q : A → Result B BoardError → Type 0) (e : BoardError) (test : Bool) (make : test ≡ true → A) (answer : Result B BoardError) → ((h : test ≡ true) → Q (make h) answer)
-    → Leads Q (needed e (tested test make)) answer
+    → IfAccepted Q (needed e (tested test make)) answer
 leads_tested Q e true make answer h = h refl
 leads_tested Q e false make answer h = tt
 
@@ -117,16 +117,16 @@ half_near p z w h e = near_is (z +ℤ w) (omega (arith, ints, h, e))
 pub far_is : (z : ℤ) → is_far z ≡ true → is_near z ≡ true → ⊥
 far_is z f n = let k = near_within z n in grind (arith, ints)
 
-pub settled : (d : Option Shift) (s t : Spot) → IsMovedSpot d s t → is_near (s.x +ℤ (shift_of d).dx) ≡ true → is_near (s.y +ℤ (shift_of d).dy) ≡ true → t ≡ moved_spot (shift_of d) s
+pub settled : (d : Option Shift) (s t : RawPoint) → IsMovedRawPoint d s t → is_near (s.x +ℤ (shift_of d).dx) ≡ true → is_near (s.y +ℤ (shift_of d).dy) ≡ true → t ≡ moved_raw_point (shift_of d) s
 settled None s t h a b =
     let x : s.x ≡ s.x +ℤ pos 0 = omega (arith, ints) in
     let y : s.y ≡ s.y +ℤ pos 0 = omega (arith, ints) in
-    h ∙ ap (λ (z : ℤ). let r : Spot = record { x = z; y = s.y } in r) x ∙ ap (λ (z : ℤ). let r : Spot = record { x = s.x +ℤ pos 0; y = z } in r) y
+    h ∙ ap (λ (z : ℤ). let r : RawPoint = record { x = z; y = s.y } in r) x ∙ ap (λ (z : ℤ). let r : RawPoint = record { x = s.x +ℤ pos 0; y = z } in r) y
 settled (Some d) s t (inl h) a b = h
 settled (Some d) s t (inr (same, inl far)) a b = absurd (far_is (s.x +ℤ d.dx) far a)
 settled (Some d) s t (inr (same, inr far)) a b = absurd (far_is (s.y +ℤ d.dy) far b)
 
-pub fits_moved : (s : Spot) → is_near s.x ≡ true → is_near s.y ≡ true → fits_board s ≡ true
+pub fits_moved : (s : RawPoint) → is_near s.x ≡ true → is_near s.y ≡ true → fits_board s ≡ true
 fits_moved s a b = both_pass (is_near s.x) (is_near s.y) a b
 
 pub two_pass : (a b : Bool) → a ≡ true → b ≡ true → a && b ≡ true

@@ -2,7 +2,7 @@
 use Rattle.std.specs.Prelude.{◌≡◌, Bool, true, Option, None, Some, Result, Ok, Err, ⊤}
 use Rattle.sexpr_read.specs.Tree.{Forest, none, Tree, leaf, branch}
 use Rattle.board_errors.specs.declared.errors.BoardError.{BoardError}
-use Rattle.roundtrip_lists.specs.Alike.{Shift, Alike, AlikeTrees}
+use Rattle.roundtrip_lists.specs.Translated.{Shift, Translated, TranslatedTrees}
 
 -- where the one is accepted, so is the other, and what they give is so related
 abbrev pub Agrees : {A B : Type 0} → (A → B → Type 0) → Result A BoardError → Result B BoardError → Type 0
@@ -38,10 +38,10 @@ abbrev pub forest_in : Tree → Forest
 forest_in (leaf s q c) = none
 forest_in (branch s inside) = inside
 
--- what stands in the two lists is alike
-abbrev pub AlikeParts : Option Shift → Tree → Tree → Type 0
-AlikeParts d t u = Alike d (forest_in t) (forest_in u)
+-- what stands in the two lists is equal up to translation
+abbrev pub TranslatedParts : Option Shift → Tree → Tree → Type 0
+TranslatedParts d t u = Translated d (forest_in t) (forest_in u)
 
--- found by this test in both, and alike
-abbrev pub FoundAlike : Option Shift → (Tree → Bool) → Option Tree → Option Tree → Type 0
-FoundAlike d test found other = OptionsAgree (λ t u. AlikeTrees d t u × (test t ≡ true)) found other
+-- found by this test in both, and equal up to translation
+abbrev pub FoundTranslated : Option Shift → (Tree → Bool) → Option Tree → Option Tree → Type 0
+FoundTranslated d test found other = OptionsAgree (λ t u. TranslatedTrees d t u × (test t ≡ true)) found other

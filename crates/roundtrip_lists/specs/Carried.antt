@@ -3,9 +3,9 @@ use Rattle.std.specs.Prelude.{◌≡◌, ℕ, pos, ◌+ℤ◌, ◌*ℤ◌, true,
 use Rattle.std.specs.List.{AllZip}
 use Rattle.board_errors.specs.declared.errors.BoardError.{BoardError}
 use Rattle.board_items.specs.declared.item.Item.{Item}
-use Rattle.board_items.specs.Moves.{AreShifted, HoleIsShifted, KindIsShifted, is_note}
+use Rattle.board_items.specs.ItemMoves.{AreShifted, HoleIsShifted, KindIsShifted, is_note}
 use Rattle.board_items.specs.Boards.{is_on_board}
-use Rattle.roundtrip_lists.specs.Alike.{Shift}
+use Rattle.roundtrip_lists.specs.Translated.{Shift}
 
 -- moved by nothing where there is no shift
 abbrev pub shift_of : Option Shift → Shift
@@ -37,9 +37,9 @@ ItemsOf unit [] = ⊤
 ItemsOf unit (item ∷ items) = (item.unit ≡ unit) × (is_on_board item ≡ true) × ItemsOf unit items
 
 -- where the one is accepted, the other answer is so related to what it gives
-abbrev pub Leads : {A B : Type 0} → (A → Result B BoardError → Type 0) → Result A BoardError → Result B BoardError → Type 0
-Leads Q (Ok x) answer = Q x answer
-Leads Q (Err e) answer = ⊤
+abbrev pub IfAccepted : {A B : Type 0} → (A → Result B BoardError → Type 0) → Result A BoardError → Result B BoardError → Type 0
+IfAccepted Q (Ok x) answer = Q x answer
+IfAccepted Q (Err e) answer = ⊤
 
 -- the item is no note, and wherever it is carried on a board, that is what is read
 abbrev pub ReadsCarried : Shift → ℕ → Item → Result Item BoardError → Type 0

@@ -1,35 +1,35 @@
--- Drawings that are read of lists that are alike.
+-- Drawings that are read of lists that are equal up to translation.
 use Rattle.std.specs.Prelude.{◌≡◌, ℤ, pos, int_le, nat_le, true, length, List, Option}
 use Rattle.std.specs.List.{AllZip}
-use Rattle.part_read.specs.declared.numbers.Spot.{Spot}
+use Rattle.part_read.specs.declared.numbers.RawPoint.{RawPoint}
 use Rattle.part_read.specs.declared.figures.Figure.{Figure}
 use Rattle.part_read.specs.declared.figures.Figure.TheVariants.{Line, Rect, Circle, Outline}
 use Rattle.part_read.specs.declared.figures.Drawing.{Drawing}
 use Rattle.part_read.specs.Circles.{radius_between}
-use Rattle.roundtrip_lists.specs.Alike.{Shift}
-use Rattle.roundtrip_lists.specs.Moved.{IsMovedSpot}
+use Rattle.roundtrip_lists.specs.Translated.{Shift}
+use Rattle.roundtrip_lists.specs.Moved.{IsMovedRawPoint}
 
 -- three corners or more, each moved
-pub record AreCorners (d : Option Shift) (spots others : List Spot) : Type 0 where
-  pub each : AllZip (IsMovedSpot d) spots others
-  pub enough : nat_le 3 (length spots) ≡ true
+pub record AreCorners (d : Option Shift) (raw_points others : List RawPoint) : Type 0 where
+  pub each : AllZip (IsMovedRawPoint d) raw_points others
+  pub enough : nat_le 3 (length raw_points) ≡ true
 
 -- the circles are those around a centre through an end
-pub record AreCircles (d : Option Shift) (center other : Spot) (radius new : ℤ) : Type 0 where
-  pub centers : IsMovedSpot d center other
-  pub end : Spot
-  pub new_end : Spot
-  pub ends : IsMovedSpot d end new_end
+pub record AreCircles (d : Option Shift) (center other : RawPoint) (radius new : ℤ) : Type 0 where
+  pub centers : IsMovedRawPoint d center other
+  pub end : RawPoint
+  pub new_end : RawPoint
+  pub ends : IsMovedRawPoint d end new_end
   pub is : radius ≡ radius_between center end
   pub new_is : new ≡ radius_between other new_end
 
 abbrev pub FigureRead : Option Shift → Figure → Figure → Type 0
-FigureRead d (Line a b) (Line c e) = IsMovedSpot d a c × IsMovedSpot d b e
+FigureRead d (Line a b) (Line c e) = IsMovedRawPoint d a c × IsMovedRawPoint d b e
 FigureRead d (Line a b) (Rect c e) = ⊥
 FigureRead d (Line a b) (Circle c r) = ⊥
 FigureRead d (Line a b) (Outline ss) = ⊥
 FigureRead d (Rect a b) (Line c e) = ⊥
-FigureRead d (Rect a b) (Rect c e) = IsMovedSpot d a c × IsMovedSpot d b e
+FigureRead d (Rect a b) (Rect c e) = IsMovedRawPoint d a c × IsMovedRawPoint d b e
 FigureRead d (Rect a b) (Circle c r) = ⊥
 FigureRead d (Rect a b) (Outline ss) = ⊥
 FigureRead d (Circle a q) (Line c e) = ⊥

@@ -1,9 +1,9 @@
-pub mod Alike
+pub mod Translated
 pub mod Agreeing
 pub mod Moved
 pub mod Carried
 pub mod Moving
-pub mod Standing
-pub mod Ground
-pub mod Moves
+pub mod FigurePositions
+pub mod LayerRole
+pub mod ListMoves
 pub mod Drawn

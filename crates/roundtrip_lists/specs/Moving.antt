@@ -1,8 +1,8 @@
--- The lists of a unit that is moved, with their places written anew.
+-- The lists of a unit that is moved, with their places rewritten.
 use Rattle.std.specs.Prelude.{ℤ, Option, None, Some}
-use Rattle.exact_dec.specs.Written.{mm_text}
+use Rattle.exact_dec.specs.MillimetreText.{mm_text}
 use Rattle.sexpr_read.specs.Tree.{Forest, none, atom, list}
-use Rattle.roundtrip_lists.specs.Alike.{Shift, place_moved}
+use Rattle.roundtrip_lists.specs.Translated.{Shift, place_moved}
 
 -- a number in the place of an atom's content
 abbrev pub put_second : ℤ × ℤ → Forest → Forest

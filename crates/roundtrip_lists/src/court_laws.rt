@@ -6,8 +6,8 @@ ghost use Rattle.geo_seg.specs.declared.points.Point.{Point};
 ghost use Rattle.geo_seg.specs.declared.points.Seg.{Seg};
 ghost use Rattle.geo_seg.specs.Shifts.{IsShiftedPoint};
 ghost use Rattle.courtyard.specs.Ends.{place, point_of, is_short};
-ghost use Rattle.courtyard.specs.Outlines.{AreChained};
-ghost use Rattle.roundtrip_lists.specs.Moves.{AreShiftedSegs, HasCorner};
+ghost use Rattle.courtyard.specs.ClosedOutlines.{AreChained};
+ghost use Rattle.roundtrip_lists.specs.ListMoves.{AreShiftedSegs, HasCorner};
 
 /// The outlines of lines that are moved are theirs, moved; and each end of a line that has a length is a corner of one.
 pub fn chains()

@@ -7,38 +7,39 @@ ghost use Rattle.board_items.specs.declared.item.About.{About};
 ghost use Rattle.copper_layers.specs.declared.set.LayerSet.{LayerSet};
 ghost use Rattle.board_items.specs.declared.item.Item.{Item};
 ghost use Rattle.board_items.specs.Boards.{PlainBoard};
-ghost use Rattle.part_read.specs.declared.stances.Stance.{Stance};
+ghost use Rattle.part_read.specs.declared.placements.Placement.{Placement};
 ghost use Rattle.part_read.specs.declared.drawings.GraphicKind.{GraphicKind};
-ghost use Rattle.part_read.specs.declared.graphics.Ground.{Ground};
+ghost use Rattle.part_read.specs.declared.graphics.LayerRole.{LayerRole};
 ghost use Rattle.part_read.specs.Drawings.{drawing_of};
-ghost use Rattle.part_read.specs.Graphics.{ground_of, graphic_by, text_by};
+ghost use Rattle.part_read.specs.Graphics.{layer_role_of, graphic_by, text_by};
 ghost use Rattle.roundtrip_lists.specs.Agreeing.{Agrees, Same};
-ghost use Rattle.roundtrip_lists.specs.Alike.{Shift, Alike};
-ghost use Rattle.roundtrip_lists.specs.Carried.{ItemsOf, Leads, ReadsItems};
+ghost use Rattle.roundtrip_lists.specs.Translated.{Shift, Translated};
+ghost use Rattle.roundtrip_lists.specs.Carried.{ItemsOf, IfAccepted, ReadsItems};
 ghost use Rattle.roundtrip_lists.specs.Drawn.{DrawingRead};
 
-/// The drawings of alike lists are of the same width and fill, and their spots are moved.
+/// The drawings of lists equal up to translation are of the same width and fill, and their spots are moved.
 pub fn drawings()
-    ensures { (d : Option Shift) (i j : Forest) (s r : Span) → Alike d i j → (kind : GraphicKind)
+    ensures { (d : Option Shift) (i j : Forest) (s r : Span) → Translated d i j
+        → (kind : GraphicKind)
         → Agrees (DrawingRead d) (drawing_of kind (branch s i)) (drawing_of kind (branch r j)) }
 {}
 
-/// Alike lists lie on the same ground, and the note of a text is the same.
+/// Lists equal up to translation lie on the same ground, and the note of a text is the same.
 pub fn texts()
-    ensures grounds { (d : Option Shift) (copper : LayerSet) (i j : Forest) (s r : Span)
-        → Alike d i j → Agrees Same (ground_of copper (branch s i))
-        (ground_of copper (branch r j)) }
+    ensures layer_roles { (d : Option Shift) (copper : LayerSet) (i j : Forest) (s r : Span)
+        → Translated d i j → Agrees Same (layer_role_of copper (branch s i))
+        (layer_role_of copper (branch r j)) }
     ensures notes { (o : Option Shift) (d : Shift) (own unit : ℕ) (about : About) (i j : Forest)
-        (s r : Span) (lies : Ground) → Alike o i j
-        → Leads (ReadsItems d own) (text_by unit about (branch s i) lies)
+        (s r : Span) (lies : LayerRole) → Translated o i j
+        → IfAccepted (ReadsItems d own) (text_by unit about (branch s i) lies)
         (text_by own about (branch r j) lies) }
 {}
 
 /// The items of graphics and of texts are of the unit asked for, and lie on a board.
 pub fn places()
-    ensures graphics { (board : PlainBoard) (unit : ℕ) (stance : Stance) (kind : GraphicKind)
-        (tree : Tree) (lies : Ground) (items : List Item)
-        → graphic_by board unit stance kind tree lies ≡ Ok items → ItemsOf unit items }
-    ensures notes { (unit : ℕ) (about : About) (tree : Tree) (lies : Ground) (items : List Item)
+    ensures graphics { (board : PlainBoard) (unit : ℕ) (placement : Placement) (kind : GraphicKind)
+        (tree : Tree) (lies : LayerRole) (items : List Item)
+        → graphic_by board unit placement kind tree lies ≡ Ok items → ItemsOf unit items }
+    ensures notes { (unit : ℕ) (about : About) (tree : Tree) (lies : LayerRole) (items : List Item)
         → text_by unit about tree lies ≡ Ok items → ItemsOf unit items }
 {}

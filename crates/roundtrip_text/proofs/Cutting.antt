@@ -6,12 +6,12 @@ use Rattle.std.proofs.Math.Seq.{drop-cons}
 use Rattle.sexpr_read.specs.declared.place.Span.{Span}
 use Rattle.sexpr_read.specs.declared.bytes.ByteClass.{ByteClass}
 use Rattle.sexpr_read.specs.declared.bytes.ByteClass.TheVariants.{Space, Open, Close, Quote, Backslash, Plain}
-use Rattle.sexpr_read.specs.Bytes.{class_of, sign_of, is_word, is_itself}
+use Rattle.sexpr_read.specs.ByteClasses.{class_of, sign_of, is_word, is_itself}
 use Rattle.sexpr_read.specs.Tree.{Forest, none, atom, list}
-use Rattle.sexpr_read.specs.Spelling.{IsGap, IsWord, IsContent, empty, itself, escape, IsAtom, SpellsForest}
+use Rattle.sexpr_read.specs.Spelling.{IsSpaceBetween, IsWord, IsContent, empty, itself, escape, IsAtom, SpellsForest}
 use Rattle.sexpr_read.proofs.Unique.{content_ordered, atom_ordered, forest_ordered}
-use Rattle.roundtrip_text.specs.Pieces.{IsBlank, AreOfWord, IsInside, IsContentOf, written, IsApart, MayFollow, Writes}
-use Rattle.roundtrip_text.specs.Pieces.IsInside.{empty as no_more, itself as goes_on, escape as escapes}
+use Rattle.roundtrip_text.specs.Pieces.{IsBlank, AreOfWord, IsQuotedContent, IsContentOf, written, IsWordEnd, MayFollow, WritesForest}
+use Rattle.roundtrip_text.specs.Pieces.IsQuotedContent.{empty as no_more, itself as goes_on, escape as escapes}
 
 -- ---- parts of a list
 
@@ -67,7 +67,7 @@ blank_within t (suc n) a h each =
     subst IsBlank (sym (part_first t n a (omega arith)))
     (sym (sign_at t a) ∙ each a (omega arith) (omega arith), blank_within t n (suc a) (omega arith) (λ i low high. each i (omega arith) (omega arith)))
 
-pub cut_gap : (t : List ℕ) (a b : ℕ) → b ≤ length t → IsGap (sign_of t) a b → IsBlank (slice_range t a b)
+pub cut_gap : (t : List ℕ) (a b : ℕ) → b ≤ length t → IsSpaceBetween (sign_of t) a b → IsBlank (slice_range t a b)
 cut_gap t a b h g = let o : a ≤ b = g.ordered in blank_within t (b - a) a (omega arith) (λ i low high. g.blank i low (omega arith))
 
 word_within : (t : List ℕ) (n a : ℕ) → a + n ≤ length t → ((i : ℕ) → a ≤ i → i < a + n → is_word (sign_of t i) ≡ true) → AreOfWord (part n a t)
@@ -87,23 +87,23 @@ cut_word t a b h w =
     subst (IsContentOf false) (sym e) (content_of_word (get_or t a 32) (slice_range t (suc a) b) (subst AreOfWord e all))
 
 -- what stands between two quotes
-inside_within : (t : List ℕ) {a b : ℕ} → IsContent (sign_of t) a b → b ≤ length t → IsInside (slice_range t a b)
-inside_within t (empty {to = b}) h = subst IsInside (sym (slice_none t b)) no_more
+inside_within : (t : List ℕ) {a b : ℕ} → IsContent (sign_of t) a b → b ≤ length t → IsQuotedContent (slice_range t a b)
+inside_within t (empty {to = b}) h = subst IsQuotedContent (sym (slice_none t b)) no_more
 inside_within t (itself {from = a} {to = b} e more) h =
     let o : suc a ≤ b = content_ordered (sign_of t) t more in
-    subst IsInside (sym (slice_first t a b o h)) (goes_on (ap is_itself (sym (sign_at t a)) ∙ e) (inside_within t more h))
+    subst IsQuotedContent (sym (slice_first t a b o h)) (goes_on (ap is_itself (sym (sign_at t a)) ∙ e) (inside_within t more h))
 inside_within t (escape {from = a} {to = b} e more) h =
     let o : suc (suc a) ≤ b = content_ordered (sign_of t) t more in
     let first = slice_first t a b (omega arith) h in
     let second = slice_first t (suc a) b o h in
-    subst IsInside (sym (first ∙ ap (λ l. get_or t a 32 ∷ l) second)) (escapes (sym (sign_at t a) ∙ e) (inside_within t more h))
+    subst IsQuotedContent (sym (first ∙ ap (λ l. get_or t a 32 ∷ l) second)) (escapes (sym (sign_at t a) ∙ e) (inside_within t more h))
 
-pub apart_after : (t : List ℕ) (a b : ℕ) → a ≤ b → b ≤ length t → is_word (sign_of t a) ≡ false → IsApart (slice_range t a b)
+pub apart_after : (t : List ℕ) (a b : ℕ) → a ≤ b → b ≤ length t → is_word (sign_of t a) ≡ false → IsWordEnd (slice_range t a b)
 apart_after t a b o h w = by_size (b - a) refl
   where
-    by_size : (n : ℕ) → b - a ≡ n → IsApart (slice_range t a b)
-    by_size zero e = subst IsApart (sym (let same : a ≡ b = omega arith in ap (λ k. slice_range t a k) (sym same) ∙ slice_none t a)) tt
-    by_size (suc n) e = subst IsApart (sym (slice_first t a b (omega arith) h)) (ap is_word (sym (sign_at t a)) ∙ w)
+    by_size : (n : ℕ) → b - a ≡ n → IsWordEnd (slice_range t a b)
+    by_size zero e = subst IsWordEnd (sym (let same : a ≡ b = omega arith in ap (λ k. slice_range t a k) (sym same) ∙ slice_none t a)) tt
+    by_size (suc n) e = subst IsWordEnd (sym (slice_first t a b (omega arith) h)) (ap is_word (sym (sign_at t a)) ∙ w)
 
 -- the byte of a bracket or a quote is known by its class
 by_tests : Bool → Bool → Bool → Bool → Bool → ByteClass
@@ -181,13 +181,13 @@ atom_content t s true x h g =
     let e : s.end ≡ suc g.0.close = g.0.ends in
     let low : s.at + 1 ≡ suc s.at = omega arith in
     let high : s.end - 1 ≡ g.0.close = omega arith in
-    subst IsInside (sym (g.1 ∙ ap (λ k. slice_range t k (s.end - 1)) low ∙ ap (λ k. slice_range t (suc s.at) k) high)) (inside_within t g.0.inside (omega arith))
+    subst IsQuotedContent (sym (g.1 ∙ ap (λ k. slice_range t k (s.end - 1)) low ∙ ap (λ k. slice_range t (suc s.at) k) high)) (inside_within t g.0.inside (omega arith))
 
 follows : (t : List ℕ) (s : Span) (q : Bool) (x : List ℕ) (to : ℕ) → s.end ≤ to → to ≤ length t → IsAtom (sign_of t) t s q x → MayFollow q (slice_range t s.end to)
 follows t s false x to o h g = apart_after t s.end to o h g.0.longest
 follows t s true x to o h g = tt
 
-pub cut_forest : (t : List ℕ) (from to : ℕ) (f : Forest) → to ≤ length t → SpellsForest (sign_of t) t from to f → Writes (slice_range t from to) f
+pub cut_forest : (t : List ℕ) (from to : ℕ) (f : Forest) → to ≤ length t → SpellsForest (sign_of t) t from to f → WritesForest (slice_range t from to) f
 cut_forest t from to none h g = cut_gap t from to h g
 cut_forest t from to (atom s q x others) h g =
     let o : s.end ≤ to = forest_ordered (sign_of t) t others s.end to g.2 in

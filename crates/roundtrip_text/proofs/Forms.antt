@@ -7,16 +7,16 @@ use Rattle.std.proofs.lemmas.Str.{IsUtf8-between, IsCharBoundary-start, IsCharBo
 use Rattle.sexpr_read.specs.declared.place.Span.{Span}
 use Rattle.sexpr_read.specs.declared.bytes.ByteClass.{ByteClass}
 use Rattle.sexpr_read.specs.declared.bytes.ByteClass.TheVariants.{Space, Open, Close, Quote, Backslash, Plain}
-use Rattle.sexpr_read.specs.Bytes.{sign_of, is_word, is_itself}
+use Rattle.sexpr_read.specs.ByteClasses.{sign_of, is_word, is_itself}
 use Rattle.sexpr_read.specs.Comments.{Line, fresh, begun, quoting, escaping, comment, line_beyond, line_at, is_passed, shown}
 use Rattle.sexpr_read.specs.Tree.{Forest, none, atom, list, branch}
-use Rattle.sexpr_read.specs.Texts.{AreTexts}
-use Rattle.sexpr_read.specs.Runs.{IsPlain}
-use Rattle.sexpr_read.specs.Spelling.{IsGap, IsWord, IsContent, empty, itself, escape, IsString, SpellsForest, SpellsAll}
+use Rattle.sexpr_read.specs.AtomTexts.{AreTexts}
+use Rattle.sexpr_read.specs.ReaderProgress.{IsPlain}
+use Rattle.sexpr_read.specs.Spelling.{IsSpaceBetween, IsWord, IsContent, empty, itself, escape, IsString, SpellsForest, SpellsAll}
 use Rattle.sexpr_read.proofs.Lines.{byte, line_next, line_first, sign_is, sign_shown, shown_passed, shown_plain, begun_sign, quoting_sign, after_open, after_close, after_quote}
 use Rattle.sexpr_read.proofs.Texts.{are_texts-spelled}
 use Rattle.sexpr_read.proofs.Unique.{string_ordered, forest_ordered}
-use Rattle.roundtrip_text.specs.Anew.{AreAtoms}
+use Rattle.roundtrip_text.specs.RewrittenText.{AreAtoms}
 use Rattle.roundtrip_text.specs.Utf8.{AreUtf8}
 use Rattle.roundtrip_text.proofs.Cutting.{atom_content, quote_byte, byte_at}
 
@@ -93,12 +93,12 @@ module _ (text : List ℕ) where
   step : (p : ℕ) → shown text p ≡ Space → IsOutside (line_at text p) → IsOutside (line_at text (suc p))
   step p s h = subst IsOutside (sym (line_next text p)) (next_by p s (line_at text p) refl h)
 
-  over_gap : (n a b : ℕ) → a + n ≡ b → IsGap (shown text) a b → IsOutside (line_at text a) → IsOutside (line_at text b)
+  over_gap : (n a b : ℕ) → a + n ≡ b → IsSpaceBetween (shown text) a b → IsOutside (line_at text a) → IsOutside (line_at text b)
   over_gap zero a b e g h = subst (λ k. IsOutside (line_at text k)) (let z : a ≡ b = omega arith in z) h
   over_gap (suc n) a b e g h =
       over_gap n (suc a) b (omega arith) (record { ordered = omega arith; blank = λ i low high. g.blank i (omega arith) high }) (step a (g.blank a (omega arith) (omega arith)) h)
 
-  gap_over : (a b : ℕ) → IsGap (shown text) a b → IsOutside (line_at text a) → IsOutside (line_at text b)
+  gap_over : (a b : ℕ) → IsSpaceBetween (shown text) a b → IsOutside (line_at text a) → IsOutside (line_at text b)
   gap_over a b g h = let o : a ≤ b = g.ordered in over_gap (b - a) a b (omega arith) g h
 
   -- where something is shown, no comment begins

@@ -5,23 +5,23 @@ use Rattle.std.proofs.Math.Seq.{drop-append_seam, take-append_seam}
 use Rattle.std.proofs.Math.Nat.{eq-or-lt_of_le}
 use Rattle.sexpr_read.specs.declared.place.Span.{Span}
 use Rattle.sexpr_read.specs.declared.bytes.ByteClass.TheVariants.{Space, Open, Close, Quote}
-use Rattle.sexpr_read.specs.Bytes.{class_of, sign_of, is_word, is_itself}
+use Rattle.sexpr_read.specs.ByteClasses.{class_of, sign_of, is_word, is_itself}
 use Rattle.sexpr_read.specs.Tree.{Forest, none, atom, list}
-use Rattle.sexpr_read.specs.Spelling.{IsGap, IsWord, IsContent, empty, itself, escape, IsString, IsAtom, SpellsForest}
+use Rattle.sexpr_read.specs.Spelling.{IsSpaceBetween, IsWord, IsContent, empty, itself, escape, IsString, IsAtom, SpellsForest}
 use Rattle.sexpr_read.proofs.Spelled.{past_end}
 use Rattle.sexpr_read.proofs.Joined.{no_gap, gap_join}
-use Rattle.roundtrip_text.specs.Pieces.{IsBlank, AreOfWord, IsInside, IsContentOf, written, IsApart, MayFollow, Writes, SameTrees}
-use Rattle.roundtrip_text.specs.Pieces.IsInside.{empty as no_more, itself as goes_on, escape as escapes}
+use Rattle.roundtrip_text.specs.Pieces.{IsBlank, AreOfWord, IsQuotedContent, IsContentOf, written, IsWordEnd, MayFollow, WritesForest, SameTrees}
+use Rattle.roundtrip_text.specs.Pieces.IsQuotedContent.{empty as no_more, itself as goes_on, escape as escapes}
 use Rattle.roundtrip_text.proofs.Cutting.{sign_at}
 
 -- the bytes stand in the text behind so many others
 pub record StandsAt (text : List ℕ) (at : ℕ) (bytes : List ℕ) : Type 0 where
-  pub front : List ℕ
-  pub long : length front ≡ at
-  pub joined : text ≡ front ++ bytes
+  pub prefix : List ℕ
+  pub long : length prefix ≡ at
+  pub joined : text ≡ prefix ++ bytes
 
 pub first_at : (t : List ℕ) (a x : ℕ) (xs : List ℕ) → StandsAt t a (x ∷ xs) → sign_of t a ≡ class_of x
-first_at t a x xs h = sign_at t a ∙ ap class_of (ap (λ l. get_or l a 32) h.joined ∙ seam h.front a h.long)
+first_at t a x xs h = sign_at t a ∙ ap class_of (ap (λ l. get_or l a 32) h.joined ∙ seam h.prefix a h.long)
   where
     seam : (p : List ℕ) (k : ℕ) → length p ≡ k → get_or (p ++ (x ∷ xs)) k 32 ≡ x
     seam [] zero e = refl
@@ -31,9 +31,9 @@ first_at t a x xs h = sign_at t a ∙ ap class_of (ap (λ l. get_or l a 32) h.jo
 
 pub behind : (t : List ℕ) (a : ℕ) (xs ys : List ℕ) → StandsAt t a (xs ++ ys) → StandsAt t (a + length xs) ys
 behind t a xs ys h = record {
-  front = h.front ++ xs;
-  long = length-append h.front xs ∙ ap (λ k. k + length xs) h.long;
-  joined = h.joined ∙ sym (append_assoc h.front xs ys);
+  prefix = h.prefix ++ xs;
+  long = length-append h.prefix xs ∙ ap (λ k. k + length xs) h.long;
+  joined = h.joined ∙ sym (append_assoc h.prefix xs ys);
 }
 
 pub one_on : (t : List ℕ) (a x : ℕ) (xs : List ℕ) → StandsAt t a (x ∷ xs) → StandsAt t (suc a) xs
@@ -45,20 +45,20 @@ as_well t a e h = subst (StandsAt t a) e h
 pub slice_at : (t : List ℕ) (a : ℕ) (xs ys : List ℕ) → StandsAt t a (xs ++ ys) → slice_range t a (a + length xs) ≡ xs
 slice_at t a xs ys h =
     let size : (a + length xs) - a ≡ length xs = omega arith in
-    let rest : drop a t ≡ xs ++ ys = ap (drop a) h.joined ∙ ap (λ k. drop k (h.front ++ (xs ++ ys))) (sym h.long) ∙ drop-append_seam h.front (xs ++ ys) in
+    let rest : drop a t ≡ xs ++ ys = ap (drop a) h.joined ∙ ap (λ k. drop k (h.prefix ++ (xs ++ ys))) (sym h.long) ∙ drop-append_seam h.prefix (xs ++ ys) in
     ap (λ n. take n (drop a t)) size ∙ ap (take (length xs)) rest ∙ take-append_seam xs ys
 
 -- ---- gaps
 
-one_gap : (t : List ℕ) (a : ℕ) → sign_of t a ≡ Space → IsGap (sign_of t) a (suc a)
+one_gap : (t : List ℕ) (a : ℕ) → sign_of t a ≡ Space → IsSpaceBetween (sign_of t) a (suc a)
 one_gap t a e = record { ordered = omega arith; blank = λ i low high. let same : i ≡ a = omega arith in rw same e }
 
-pub set_gap : (t : List ℕ) (gap rest : List ℕ) (a : ℕ) → StandsAt t a (gap ++ rest) → IsBlank gap → IsGap (sign_of t) a (a + length gap)
-set_gap t [] rest a h g = subst (IsGap (sign_of t) a) (omega arith) (no_gap (sign_of t) a)
+pub set_gap : (t : List ℕ) (gap rest : List ℕ) (a : ℕ) → StandsAt t a (gap ++ rest) → IsBlank gap → IsSpaceBetween (sign_of t) a (a + length gap)
+set_gap t [] rest a h g = subst (IsSpaceBetween (sign_of t) a) (omega arith) (no_gap (sign_of t) a)
 set_gap t (b ∷ gap) rest a h g =
     let first = one_gap t a (first_at t a b (gap ++ rest) h ∙ g.0) in
     let others = set_gap t gap rest (suc a) (one_on t a b (gap ++ rest) h) g.1 in
-    subst (IsGap (sign_of t) a) (let e : suc a + length gap ≡ a + suc (length gap) = omega arith in e) (gap_join (sign_of t) a (suc a) (suc a + length gap) first others)
+    subst (IsSpaceBetween (sign_of t) a) (let e : suc a + length gap ≡ a + suc (length gap) = omega arith in e) (gap_join (sign_of t) a (suc a) (suc a + length gap) first others)
 
 -- ---- words
 
@@ -69,13 +69,13 @@ each_of_word t (b ∷ w) rest a h all i low high = elim (eq-or-lt_of_le low) [
   | inr lt ↦ each_of_word t w rest (suc a) (one_on t a b (w ++ rest) h) all.1 i lt (omega arith)
 ]
 
-pub apart_at : (t : List ℕ) (xs : List ℕ) (a : ℕ) → StandsAt t a xs → IsApart xs → is_word (sign_of t a) ≡ false
+pub apart_at : (t : List ℕ) (xs : List ℕ) (a : ℕ) → StandsAt t a xs → IsWordEnd xs → is_word (sign_of t a) ≡ false
 apart_at t [] a h apart =
-    let long : length t ≡ a = ap length h.joined ∙ length-append h.front [] ∙ (let e : length h.front + 0 ≡ length h.front = omega arith in e) ∙ h.long in
+    let long : length t ≡ a = ap length h.joined ∙ length-append h.prefix [] ∙ (let e : length h.prefix + 0 ≡ length h.prefix = omega arith in e) ∙ h.long in
     ap is_word (past_end t a (omega arith)) ∙ refl
 apart_at t (b ∷ xs) a h apart = ap is_word (first_at t a b xs h) ∙ apart
 
-pub all_apart : (xs ys : List ℕ) → IsApart xs → IsApart ys → IsApart (xs ++ ys)
+pub all_apart : (xs ys : List ℕ) → IsWordEnd xs → IsWordEnd ys → IsWordEnd (xs ++ ys)
 all_apart [] ys h k = k
 all_apart (b ∷ xs) ys h k = h
 
@@ -83,7 +83,7 @@ word_of : (w : List ℕ) → IsContentOf false w → AreOfWord w × (0 < length 
 word_of [] h = absurd h
 word_of (b ∷ w) h = (h, omega arith)
 
-pub set_word : (t : List ℕ) (w rest : List ℕ) (a : ℕ) → StandsAt t a (w ++ rest) → IsContentOf false w → IsApart rest → IsWord (sign_of t) a (a + length w)
+pub set_word : (t : List ℕ) (w rest : List ℕ) (a : ℕ) → StandsAt t a (w ++ rest) → IsContentOf false w → IsWordEnd rest → IsWord (sign_of t) a (a + length w)
 set_word t w rest a h c apart =
     let k = word_of w c in
     let some : 0 < length w = k.1 in
@@ -95,7 +95,7 @@ set_word t w rest a h c apart =
 
 -- ---- strings
 
-set_inside : (t : List ℕ) (c rest : List ℕ) (a b : ℕ) → a + length c ≡ b → StandsAt t a (c ++ rest) → IsInside c → IsContent (sign_of t) a b
+set_inside : (t : List ℕ) (c rest : List ℕ) (a b : ℕ) → a + length c ≡ b → StandsAt t a (c ++ rest) → IsQuotedContent c → IsContent (sign_of t) a b
 set_inside t _ rest a b e h no_more = subst (IsContent (sign_of t) a) (let z : a ≡ b = omega arith in z) empty
 set_inside t _ rest a b e h (goes_on {b = x} {bytes = c} is more) =
     itself (ap is_itself (first_at t a x (c ++ rest) h) ∙ is) (set_inside t c rest (suc a) b (omega arith) (one_on t a x (c ++ rest) h) more)
@@ -144,19 +144,19 @@ pub set_atom : (t : List ℕ) (q : Bool) (c rest : List ℕ) (a : ℕ) → Stand
 set_atom t false c rest a h k apart = (set_word t c rest a h k apart, sym (slice_at t a c rest h))
 set_atom t true c rest a h k apart = (set_string t c rest a h k, string_slice t c rest a h)
 
-may_follow : (q : Bool) (rest post : List ℕ) → MayFollow q rest → IsApart post → MayFollow q (rest ++ post)
+may_follow : (q : Bool) (rest post : List ℕ) → MayFollow q rest → IsWordEnd post → MayFollow q (rest ++ post)
 may_follow false rest post h k = all_apart rest post h k
 may_follow true rest post h k = tt
 
 -- ---- trees
 
 -- trees that are the same but for their spans, spelled in the text from one place to another
-pub record SpelledAlike (t : List ℕ) (from to : ℕ) (f : Forest) : Type 0 where
+pub record SpelledTranslated (t : List ℕ) (from to : ℕ) (f : Forest) : Type 0 where
   pub forest : Forest
   pub same : SameTrees f forest
   pub spelled : SpellsForest (sign_of t) t from to forest
 
-pub set_forest : (f : Forest) (t bytes post : List ℕ) (a : ℕ) → StandsAt t a (bytes ++ post) → IsApart post → Writes bytes f → SpelledAlike t a (a + length bytes) f
+pub set_forest : (f : Forest) (t bytes post : List ℕ) (a : ℕ) → StandsAt t a (bytes ++ post) → IsWordEnd post → WritesForest bytes f → SpelledTranslated t a (a + length bytes) f
 set_forest none t bytes post a h apart w = record { forest = none; same = tt; spelled = set_gap t bytes post a h w }
 set_forest (atom s q c others) t bytes post a h apart (gap, rest, joined, blank, is, follow, w) =
     let word : List ℕ = written q c in

@@ -4,10 +4,10 @@ use Rattle.std.proofs.Math.Seq.{drop-append_seam, take-append_seam}
 use Rattle.std.proofs.lemmas.Bool.{cases_lt}
 use Rattle.std.proofs.lemmas.Str.{IsUtf8-append, IsUtf8-nil, IsUtf8-from_ascii, IsUtf8-take, IsUtf8-drop, IsCharBoundary-before_ascii, IsCharBoundary-after_ascii}
 use Rattle.sexpr_read.specs.declared.bytes.ByteClass.TheVariants.{Space, Plain}
-use Rattle.sexpr_read.specs.Bytes.{class_of, is_word}
+use Rattle.sexpr_read.specs.ByteClasses.{class_of, is_word}
 use Rattle.sexpr_read.specs.Tree.{Forest, none, atom, list}
 use Rattle.sexpr_read.proofs.Texts.{high_plain}
-use Rattle.roundtrip_text.specs.Pieces.{IsBlank, written, MayFollow, Writes}
+use Rattle.roundtrip_text.specs.Pieces.{IsBlank, written, MayFollow, WritesForest}
 use Rattle.roundtrip_text.specs.Utf8.{AreUtf8}
 
 pub low_utf8 : (b : ℕ) → b < 128 → IsUtf8 (b ∷ [])
@@ -30,11 +30,11 @@ halves xs ys b low u =
     let is : get_or whole n 0 < 128 = subst (λ x. x < 128) (sym (seam xs ys b 0)) low in
     let before = IsCharBoundary-before_ascii whole n inside is in
     let after = IsCharBoundary-after_ascii whole n u inside is in
-    let front : take n whole ≡ xs = take-append_seam xs (b ∷ ys) in
+    let prefix : take n whole ≡ xs = take-append_seam xs (b ∷ ys) in
     let size : length (xs ++ b ∷ []) ≡ n + 1 = length-append xs (b ∷ []) in
     let back : drop (n + 1) whole ≡ ys =
     ap (λ k. drop k whole) (sym size) ∙ ap (drop (length (xs ++ b ∷ []))) (sym (append_assoc xs (b ∷ []) ys)) ∙ drop-append_seam (xs ++ b ∷ []) ys in
-    (subst IsUtf8 front (IsUtf8-take whole n u before), subst IsUtf8 back (IsUtf8-drop whole (n + 1) u after))
+    (subst IsUtf8 prefix (IsUtf8-take whole n u before), subst IsUtf8 back (IsUtf8-drop whole (n + 1) u after))
 
 low_by : (b : ℕ) → (class_of b ≡ Plain → ⊥) → b < 128
 low_by b h = elim (cases_lt b 128) [ inl low ↦ low | inr high ↦ absurd (h (high_plain b high)) ]
@@ -59,7 +59,7 @@ content_apart false c [] h u = (subst IsUtf8 (append-nil c) u, IsUtf8-nil)
 content_apart false c (b ∷ rest) h u =
     let k = halves c rest b (apart_low b h) u in (k.0, IsUtf8-append (b ∷ []) rest (low_utf8 b (apart_low b h)) k.1)
 
-pub utf8_apart : (bytes : List ℕ) (f : Forest) → Writes bytes f → IsUtf8 bytes → AreUtf8 f
+pub utf8_apart : (bytes : List ℕ) (f : Forest) → WritesForest bytes f → IsUtf8 bytes → AreUtf8 f
 utf8_apart bytes none h u = tt
 utf8_apart bytes (atom s q c others) (gap, rest, joined, blank, is, follow, h) u =
     let k = content_apart q c rest follow (without_gap gap (written q c ++ rest) blank (subst IsUtf8 joined u)) in
@@ -79,7 +79,7 @@ pub written_utf8 : (q : Bool) (c : List ℕ) → IsUtf8 c → IsUtf8 (written q 
 written_utf8 false c u = u
 written_utf8 true c u = IsUtf8-append (34 ∷ []) (c ++ 34 ∷ []) (low_utf8 34 (omega arith)) (IsUtf8-append c (34 ∷ []) u (low_utf8 34 (omega arith)))
 
-pub utf8_joined : (bytes : List ℕ) (f : Forest) → Writes bytes f → AreUtf8 f → IsUtf8 bytes
+pub utf8_joined : (bytes : List ℕ) (f : Forest) → WritesForest bytes f → AreUtf8 f → IsUtf8 bytes
 utf8_joined bytes none h u = blank_utf8 bytes h
 utf8_joined bytes (atom s q c others) (gap, rest, joined, blank, is, follow, h) u =
     subst IsUtf8 (sym joined) (IsUtf8-append gap (written q c ++ rest) (blank_utf8 gap blank) (IsUtf8-append (written q c) rest (written_utf8 q c u.0) (utf8_joined rest others h u.1)))

@@ -3,8 +3,8 @@ use Rattle.std.specs.Prelude.{◌≡◌, ℕ, suc, ◌≤◌, Bool, List}
 use Rattle.sexpr_read.specs.declared.place.Span.{Span}
 use Rattle.sexpr_read.specs.Tree.{Forest, atom, branch, levels_in}
 use Rattle.sexpr_read.specs.Spelling.{Spells}
-use Rattle.roundtrip_text.specs.Pieces.{Writes, SameTrees}
-use Rattle.roundtrip_text.specs.Anew.{Fate, AreFit, FirstIsThere, AreAtoms, insides}
+use Rattle.roundtrip_text.specs.Pieces.{WritesForest, SameTrees}
+use Rattle.roundtrip_text.specs.RewrittenText.{Disposition, AreFit, FirstIsThere, AreAtoms, insides}
 use Rattle.roundtrip_text.specs.Utf8.{AreUtf8, BecomeUtf8}
 
 -- the text is one list of at most 64 levels, with a head
@@ -20,15 +20,15 @@ pub record Root (text : List ℕ) : Type 0 where
 abbrev pub inside_root : {text : List ℕ} → Root text → Forest
 inside_root root = atom root.head_span root.quoted root.head root.others
 
--- the fates are ones of what follows a head, of which the first tree is still there
-pub record FitBehindHead (fates : List Fate) (others : Forest) : Type 0 where
-  pub fit : AreFit fates others
-  pub first : FirstIsThere fates others
+-- the dispositions are ones of what follows a head, of which the first tree is still there
+pub record FitBehindHead (dispositions : List Disposition) (others : Forest) : Type 0 where
+  pub fit : AreFit dispositions others
+  pub first : FirstIsThere dispositions others
 
 -- and they write nothing but UTF-8
-pub record FitInRoot (fates : List Fate) (others : Forest) : Type 0 where
-  pub behind_head : FitBehindHead fates others
-  pub utf8 : BecomeUtf8 fates others
+pub record FitInRoot (dispositions : List Disposition) (others : Forest) : Type 0 where
+  pub behind_head : FitBehindHead dispositions others
+  pub utf8 : BecomeUtf8 dispositions others
 
 -- the trees may stand last in a text of at most 64 levels
 pub record MayBeAdded (added : Forest) : Type 0 where
@@ -38,7 +38,7 @@ pub record MayBeAdded (added : Forest) : Type 0 where
 
 -- the bytes spell this head, with these lists behind it; what else they spell are atoms
 abbrev pub WritesEdited : List ℕ → Span → Bool → List ℕ → List Forest → Type 0
-WritesEdited bytes s quoted content lists = (others : Forest) × Writes bytes (atom s quoted content others) × (insides others ≡ lists)
+WritesEdited bytes s quoted content lists = (others : Forest) × WritesForest bytes (atom s quoted content others) × (insides others ≡ lists)
 
 -- the text is one list of at most 64 levels with this head and these lists; what else stands in it are atoms
 pub record SpellsEdited (text : List ℕ) (quoted : Bool) (content : List ℕ) (lists : List Forest) : Type 0 where

@@ -6,21 +6,21 @@ use Rattle.std.proofs.lemmas.List.Elements.{All-nil}
 use Rattle.std.proofs.lemmas.Map.Views.{exact_unsigned_eq}
 use Rattle.geo_seg.specs.declared.boxes.Bounds.{Bounds}
 use Rattle.geo_seg.specs.Boxes.{AreClear}
-use Rattle.board_items.specs.Parts.{parts_of}
+use Rattle.board_items.specs.ItemParts.{parts_of}
 use Rattle.board_items.specs.Extents.{LiesIn, AreBoundsOf}
-use Rattle.board_index.specs.Holding.{IsEntryOf}
+use Rattle.board_index.specs.IndexedItems.{IsEntryOf}
 use Rattle.box_index.specs.declared.entry.Entry.{Entry}
 use Rattle.cond_lang.specs.declared.kind.Kind.{Kind}
 use Rattle.cond_lang.specs.declared.kind.Kind.TheVariants.{Short, Clearance, HoleClearance, HoleToHole, EdgeClearance, CourtyardClearance, Keepout, PhysicalClearance, PhysicalHoleClearance}
-use Rattle.cond_lang.specs.Kinds.{kind_number}
+use Rattle.cond_lang.specs.CheckKinds.{kind_number}
 use Rattle.cond_lang.specs.Rules.{PlainConstraint, PlainRule}
 use Rattle.rule_pick.specs.Deciding.{asked_by, asked_least}
 use Rattle.rule_pick.specs.Picks.{Pick}
 use Rattle.rule_pick.specs.Reach.{is_between_two}
-use Rattle.item_copper.proofs.Rooms.{all_lie}
+use Rattle.item_copper.proofs.ItemBoxes.{all_lie}
 use Rattle.item_copper.proofs.Far.{far_in, far_back, each_lies}
 use Rattle.kind_subjects.specs.declared.layer.RowLayer.{RowLayer}
-use Rattle.kind_subjects.specs.Layers.{asked_layer}
+use Rattle.kind_subjects.specs.TriedLayers.{asked_layer}
 use Rattle.kind_subjects.specs.Compared.{is_compared}
 use Rattle.pair_check.specs.PlainRow.{PlainRow}
 use Rattle.pair_check.specs.Coppers.{are_copper}
@@ -31,10 +31,10 @@ use Rattle.pair_check.proofs.KindRows.{same_number}
 use Rattle.pair_check.proofs.NearPicks.{found_has, at_has, picked_at_most}
 use Rattle.pair_check.proofs.PassedKinds.{no_edge, no_courtyards, no_keepout}
 use Rattle.pair_check.proofs.RowsOfPair.{rows_of_pair}
-use Rattle.row_check.specs.declared.hands.Hand.{Hand}
-use Rattle.row_check.specs.Copper.{is_of_copper, AsksAtMost, EachAsksAtMost, AskAtMost, ItAsksAtMost, AreApart}
-use Rattle.row_check.specs.Hands.{StandsAt}
-use Rattle.row_check.specs.Walks.{HasMore}
+use Rattle.row_check.specs.declared.operands.Operand.{Operand}
+use Rattle.row_check.specs.CopperSeparation.{is_of_copper, AsksAtMost, EachAsksAtMost, AskAtMost, ItAsksAtMost, AreBoxesApart}
+use Rattle.row_check.specs.Operands.{StandsAt}
+use Rattle.row_check.specs.EntryWalks.{HasAddedRows}
 use Rattle.row_check.proofs.NearPairs.{breaks_nothing}
 use Rattle.row_check.proofs.TileRows.{its_bounds}
 
@@ -76,8 +76,8 @@ module _ (d : Deciders) (pair : Pair) (least most : ℤ) (ask : AskAtMost d leas
     none _ says = says
 
 -- so two such items have no row
-pub no_rows_apart : (c : Checked) (least : ℤ) → AskAtMost (deciders c) least → (a b : Entry) (one other : Hand) → StandsAt c one → StandsAt c other → one.id ≡ a.id → other.id ≡ b.id → one.id < other.id → IsEntryOf c.board a → IsEntryOf c.board b
-    → AreApart least a b one.single other.single → (rows : List PlainRow) → HasMore (AreRowsOfPair c one.id other.id) rows rows
+pub no_rows_apart : (c : Checked) (least : ℤ) → AskAtMost (deciders c) least → (a b : Entry) (one other : Operand) → StandsAt c one → StandsAt c other → one.id ≡ a.id → other.id ≡ b.id → one.id < other.id → IsEntryOf c.board a → IsEntryOf c.board b
+    → AreBoxesApart least a b one.single other.single → (rows : List PlainRow) → HasAddedRows (AreRowsOfPair c one.id other.id) rows rows
 no_rows_apart c least ask a b one other stands stands_too same same_too ordered on on_too apart rows =
     let pair : Pair = record { a = one.single.item.now; b = other.single.item.now; facts_a = one.single.facts.now; facts_b = other.single.facts.now } in
     let own = its_bounds c.board a one.id one.single.item.now on (sym same) stands.item_is in

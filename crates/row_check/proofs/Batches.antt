@@ -6,8 +6,8 @@ use Rattle.std.proofs.lemmas.List.{take_more, take_all, flat_map_more}
 use Rattle.box_index.specs.Tiles.{PlainIndex, IsSoundIndex}
 use Rattle.pair_check.specs.PlainRow.{PlainRow}
 use Rattle.pair_check.specs.Rows.{Checked}
-use Rattle.row_check.specs.Tiles.{IsIndexOf, AreRowsOfTile}
-use Rattle.row_check.specs.Walks.{HasMore}
+use Rattle.row_check.specs.RowsOfTile.{IsIndexOf, AreRowsOfTile}
+use Rattle.row_check.specs.EntryWalks.{HasAddedRows}
 use Rattle.row_check.specs.Whole.{AreOnceWhere, IsOfTiles}
 use Rattle.board_index.proofs.OneList.{nothing}
 use Rattle.row_check.proofs.RowLists.{no_rows}
@@ -42,7 +42,7 @@ module _ (c : Checked) (index : PlainIndex) (sound : IsSoundIndex index) (is : I
       let lb : k < length batches = omega (arith, long) in
       let e : take (k + 1) batches ≡ take k batches ++ get_or batches k [] ∷ [] = take_more batches k [] lb in
       let is_more : joined_to (k + 1) ≡ joined_to k ++ get_or batches k [] = ap (flat_map (λ (batch : List PlainRow). batch)) e ∙ sym (flat_map_more (λ (batch : List PlainRow). batch) [] (take k batches) (get_or batches k [])) in
-      let more : HasMore (AreRowsOfTile c index (get_or tiles k 0) changed) (joined_to k) (joined_to (k + 1)) = record { more = get_or batches k []; is = is_more; pass = at tiles batches each k lt } in
+      let more : HasAddedRows (AreRowsOfTile c index (get_or tiles k 0) changed) (joined_to k) (joined_to (k + 1)) = record { more = get_or batches k []; is = is_more; pass = at tiles batches each k lt } in
       let next : (k + 1) ≡ suc k = omega arith in
       subst (λ (n : ℕ). AreOnceWhere (IsOfTiles c index (take n tiles) changed) (joined_to n)) next
       (one_tile_more c index sound is tiles changed up k lt (joined_to k) (joined_to (k + 1)) more (first_tiles k (omega arith)))

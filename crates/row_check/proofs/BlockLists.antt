@@ -15,7 +15,7 @@ use Rattle.box_index.proofs.TileLemmas.{near_sides}
 use Rattle.box_index.proofs.Reaching.{meet_true}
 use Rattle.row_check.specs.declared.blocks.Boxes.{Boxes}
 use Rattle.row_check.specs.Blocks.{AreBlocks, AreBoxes, IsFar}
-use Rattle.row_check.specs.Walks.{is_owned, IsEndOf}
+use Rattle.row_check.specs.EntryWalks.{is_owned, IsEndOf}
 
 -- ---- boxes
 
@@ -64,9 +64,9 @@ no_box : (k : ℕ) (b : Bounds) → slice_get [] k ≡ Some b → ⊥
 no_box k b e = let lt = slice_get_within [] k b e in absurd (omega arith)
 
 -- each end has the same blocks
-pub blocks_end : (size : ℕ) (boxes : List Bounds) (entries front end : List Entry) → entries ≡ front ++ end → AreBlocks size boxes entries → AreBlocks size boxes end
-blocks_end size boxes entries front end split h = record {
-  each = λ f e is k b at long. h.each (front ++ f) e (split ∙ ap (λ ys. front ++ ys) is ∙ sym (append_assoc front f e)) k b at long;
+pub blocks_end : (size : ℕ) (boxes : List Bounds) (entries prefix end : List Entry) → entries ≡ prefix ++ end → AreBlocks size boxes entries → AreBlocks size boxes end
+blocks_end size boxes entries prefix end split h = record {
+  each = λ f e is k b at long. h.each (prefix ++ f) e (split ∙ ap (λ ys. prefix ++ ys) is ∙ sym (append_assoc prefix f e)) k b at long;
 }
 
 far_block : (size : ℕ) (index : PlainIndex) (tile : ℕ) (first : Entry) (boxes : List Bounds) (left : List Entry) → AreBlocks size boxes left → IsFar (widened first.bounds (margin index)) size boxes (length left) → filter (is_owned index tile first) (take size left) ≡ []
@@ -81,19 +81,19 @@ as_widened first index wide size boxes count e far = subst (λ (w : Bounds). IsF
 -- a block more that is far
 pub block_less : (size : ℕ) (index : PlainIndex) (tile : ℕ) (a : Entry) (boxes : List Bounds) (others left rest : List Entry) → rest ≡ drop size left → AreBlocks size boxes left → IsFar (widened a.bounds (margin index)) size boxes (length left) → IsEndOf index tile a others left → IsEndOf index tile a others rest
 block_less size index tile a boxes others left rest e blocks far h = record {
-  front = h.front ++ take size left;
-  split = h.split ∙ ap (λ ys. h.front ++ ys) (sym (take-append-drop size left) ∙ ap (λ ys. take size left ++ ys) (sym e)) ∙ sym (append_assoc h.front (take size left) rest);
+  prefix = h.prefix ++ take size left;
+  split = h.split ∙ ap (λ ys. h.prefix ++ ys) (sym (take-append-drop size left) ∙ ap (λ ys. take size left ++ ys) (sym e)) ∙ sym (append_assoc h.prefix (take size left) rest);
   none =
-      filter-append (is_owned index tile a) h.front (take size left)
+      filter-append (is_owned index tile a) h.prefix (take size left)
       ∙ ap (λ ys. ys ++ filter (is_owned index tile a) (take size left)) h.none
       ∙ far_block size index tile a boxes left blocks far;
 }
 
 -- both kinds of blocks
-pub boxes_end : (boxes : Boxes) (entries front end : List Entry) → entries ≡ front ++ end → AreBoxes boxes entries → AreBoxes boxes end
-boxes_end boxes entries front end split h = record {
-  short = blocks_end 4 boxes.short.now entries front end split h.short;
-  long = blocks_end 32 boxes.long.now entries front end split h.long;
+pub boxes_end : (boxes : Boxes) (entries prefix end : List Entry) → entries ≡ prefix ++ end → AreBoxes boxes entries → AreBoxes boxes end
+boxes_end boxes entries prefix end split h = record {
+  short = blocks_end 4 boxes.short.now entries prefix end split h.short;
+  long = blocks_end 32 boxes.long.now entries prefix end split h.long;
 }
 
 -- what a slice behind the block has
@@ -119,17 +119,17 @@ more_in_box first others i d old new lt wider own all =
     subst (λ ys. All P (first ∷ ys)) (sym (take_more others i d lt))
     (All-push P (first ∷ take i others) (get_or others i d) (All-weaker (λ (e : Entry). IsPartOf e.bounds old) P (λ e h. part_on e.bounds old new h wider) (first ∷ take i others) all) own)
 
-cut : {X : Type 0} (front end left back : List X) → front ++ end ≡ left ++ back → length end ≤ length back → (f : List X) × (back ≡ f ++ end)
-cut front end [] back e le = (front, sym e)
+cut : {X : Type 0} (prefix end left back : List X) → prefix ++ end ≡ left ++ back → length end ≤ length back → (f : List X) × (back ≡ f ++ end)
+cut prefix end [] back e le = (prefix, sym e)
 cut [] end (x ∷ left) back e le = let long = ap length e ∙ length-append (x ∷ left) back in absurd (omega (arith, long, le))
-cut {X} (y ∷ front) end (x ∷ left) back e le = cut front end left back (tails y x (front ++ end) (left ++ back) e) le
+cut {X} (y ∷ prefix) end (x ∷ left) back e le = cut prefix end left back (tails y x (prefix ++ end) (left ++ back) e) le
   where
     tails : (y x : X) (ys xs : List X) → y ∷ ys ≡ x ∷ xs → ys ≡ xs
     tails y x ys xs e = cc
 
-whole_end : {X : Type 0} (front end all : List X) → all ≡ front ++ end → length end ≡ length all → end ≡ all
+whole_end : {X : Type 0} (prefix end all : List X) → all ≡ prefix ++ end → length end ≡ length all → end ≡ all
 whole_end [] end all e l = sym e
-whole_end (x ∷ front) end all e l = let long = ap length e ∙ length-append (x ∷ front) end in absurd (omega (arith, long, l))
+whole_end (x ∷ prefix) end all e l = let long = ap length e ∙ length-append (x ∷ prefix) end in absurd (omega (arith, long, l))
 
 -- the boxes of the blocks behind some that are left
 pub record AreBehind (size : ℕ) (boxes : List Bounds) (entries left : List Entry) : Type 0 where
@@ -151,15 +151,15 @@ get_push (x ∷ boxes) new b (suc k) e = up (get_push boxes new b k e)
     up (inl h) = inl h
     up (inr h) = inr (ap suc h.0, h.1)
 
-take_front : (xs ys : List Entry) → take (length xs) (xs ++ ys) ≡ xs
-take_front [] ys = refl
-take_front (x ∷ xs) ys = ap (λ zs. x ∷ zs) (take_front xs ys)
+take_prefix : (xs ys : List Entry) → take (length xs) (xs ++ ys) ≡ xs
+take_prefix [] ys = refl
+take_prefix (x ∷ xs) ys = ap (λ zs. x ∷ zs) (take_prefix xs ys)
 
-pub more_behind : (size : ℕ) (boxes : List Bounds) (entries left front block : List Entry) (new : Bounds) → left ≡ front ++ block → length block ≡ size → All (λ (e : Entry). IsPartOf e.bounds new) block
-    → AreBehind size boxes entries left → AreBehind size (boxes ++ new ∷ []) entries front
-more_behind size boxes entries left front block new e long all h = record {
+pub more_behind : (size : ℕ) (boxes : List Bounds) (entries left prefix block : List Entry) (new : Bounds) → left ≡ prefix ++ block → length block ≡ size → All (λ (e : Entry). IsPartOf e.bounds new) block
+    → AreBehind size boxes entries left → AreBehind size (boxes ++ new ∷ []) entries prefix
+more_behind size boxes entries left prefix block new e long all h = record {
   back = block ++ h.back;
-  split = h.split ∙ ap (λ ys. ys ++ h.back) e ∙ append_assoc front block h.back;
+  split = h.split ∙ ap (λ ys. ys ++ h.back) e ∙ append_assoc prefix block h.back;
   long = count;
   blocks = record { each = each };
 }
@@ -171,7 +171,7 @@ more_behind size boxes entries left front block new e long all h = record {
         let n = h.long in omega (arith, l, m, n, long)
 
     front_of : (ys : List Entry) → take size (block ++ ys) ≡ block
-    front_of ys = ap (λ (n : ℕ). take n (block ++ ys)) (sym long) ∙ take_front block ys
+    front_of ys = ap (λ (n : ℕ). take n (block ++ ys)) (sym long) ∙ take_prefix block ys
 
     each : (f end : List Entry) → block ++ h.back ≡ f ++ end → (k : ℕ) (b : Bounds) → slice_get (boxes ++ new ∷ []) k ≡ Some b → length end ≡ k * size + size → All (λ (e : Entry). IsPartOf e.bounds b) (take size end)
     each f end is k b at l = by (get_push boxes new b k at)
@@ -187,10 +187,10 @@ more_behind size boxes entries left front block new e long all h = record {
             (subst (λ ys. All (λ (e : Entry). IsPartOf e.bounds b) ys) (sym (front_of h.back)) (subst (λ x. All (λ (e : Entry). IsPartOf e.bounds x) block) last.1 all))
 
 -- the block at the end of what is left
-pub more_cut : (size : ℕ) (boxes : List Bounds) (entries left front block : List Entry) (new : Bounds) (n : ℕ) → n ≡ length left - size → size ≤ length left → front ≡ take n left → block ≡ drop n left → All (λ (e : Entry). IsPartOf e.bounds new) block
-    → AreBehind size boxes entries left → AreBehind size (boxes ++ new ∷ []) entries front
-more_cut size boxes entries left front block new n e le f b all h =
-    more_behind size boxes entries left front block new (sym (take-append-drop n left) ∙ ap (λ ys. ys ++ drop n left) (sym f) ∙ ap (λ ys. front ++ ys) (sym b)) (ap length b ∙ length-drop n left ∙ count (length left) n e le) all h
+pub more_cut : (size : ℕ) (boxes : List Bounds) (entries left prefix block : List Entry) (new : Bounds) (n : ℕ) → n ≡ length left - size → size ≤ length left → prefix ≡ take n left → block ≡ drop n left → All (λ (e : Entry). IsPartOf e.bounds new) block
+    → AreBehind size boxes entries left → AreBehind size (boxes ++ new ∷ []) entries prefix
+more_cut size boxes entries left prefix block new n e le f b all h =
+    more_behind size boxes entries left prefix block new (sym (take-append-drop n left) ∙ ap (λ ys. ys ++ drop n left) (sym f) ∙ ap (λ ys. prefix ++ ys) (sym b)) (ap length b ∙ length-drop n left ∙ count (length left) n e le) all h
   where
     count : (m n : ℕ) → n ≡ m - size → size ≤ m → m - n ≡ size
     count m n e le = omega (arith, e, le)

@@ -5,7 +5,7 @@ use Rattle.std.proofs.lemmas.Int.{ints}
 use Rattle.std.proofs.lemmas.List.{take_more, take_all, map-append}
 use Rattle.std.proofs.lemmas.List.Elements.{All-nil, All-push, All-weaker}
 use Rattle.cond_lang.specs.Rules.{PlainConstraint, PlainRule}
-use Rattle.row_check.specs.Copper.{AsksAtMost, EachAsksAtMost}
+use Rattle.row_check.specs.CopperSeparation.{AsksAtMost, EachAsksAtMost}
 
 along : (u v w : ℤ) → u ≤ℤ v → v ≤ℤ w → u ≤ℤ w
 along u v w h k = omega (arith, ints)
@@ -17,9 +17,9 @@ pub each_wider : (m n : ℤ) → m ≤ℤ n → (r : PlainRule) → EachAsksAtMo
 each_wider m n le r h = All-weaker (AsksAtMost m) (AsksAtMost n) (asks_wider m n le) r.constraints h
 
 -- so far: no less than at the start, and no element of the front asks for more
-pub record IsMostOf {X Y : Type 0} (f : X → Y) (P : ℤ → Y → Type 0) (start : ℤ) (front : List X) (most : ℤ) : Type 0 where
+pub record IsMostOf {X Y : Type 0} (f : X → Y) (P : ℤ → Y → Type 0) (start : ℤ) (prefix : List X) (most : ℤ) : Type 0 where
   pub old : start ≤ℤ most
-  pub asked : All (P most) (map f front)
+  pub asked : All (P most) (map f prefix)
 
 module _ {X Y : Type 0} (f : X → Y) (P : ℤ → Y → Type 0) (wider : (m n : ℤ) → m ≤ℤ n → (y : Y) → P m y → P n y) (start : ℤ) where
   pub most_of_none : IsMostOf f P start [] start

@@ -9,8 +9,8 @@ use Rattle.board_items.specs.declared.item.What.{What}
 use Rattle.board_items.specs.declared.item.What.TheVariants.{Track, Via, Pad, Graphic, Fill, Edge, Area, Body, Note}
 use Rattle.board_items.specs.declared.item.Item.{Item}
 use Rattle.copper_layers.specs.Layers.{has_layer}
-use Rattle.board_items.specs.Copper.{on_layer, SomeMeet, Keeps}
-use Rattle.board_items.specs.Parts.{parts_of, hole_parts, kind_parts}
+use Rattle.board_items.specs.CopperPairs.{on_layer, SomeMeet, Keeps}
+use Rattle.board_items.specs.ItemParts.{parts_of, hole_parts, kind_parts}
 use Rattle.cond_lang.specs.declared.kind.Kind.{Kind}
 use Rattle.kind_subjects.specs.declared.subject.Faces.{Faces}
 use Rattle.kind_subjects.specs.declared.subject.Faces.TheVariants.{Coppers, HolesAndCopper, Holes, EdgesAndCopper, Yards, Areas}
@@ -25,9 +25,9 @@ use Rattle.kind_subjects.specs.Facing.{Facing, facing, copper_on, hole_on, hole_
 
 -- ---- parts of one item
 module _ (P : Part → Type 0) where
-  front_all : (xs ys : List Part) → All P (xs ++ ys) → All P xs
-  front_all [] ys a = All-nil P
-  front_all (x ∷ xs) ys a = All-cons P x xs (All-head P x (xs ++ ys) a) (front_all xs ys (All-tail P x (xs ++ ys) a))
+  prefix_all : (xs ys : List Part) → All P (xs ++ ys) → All P xs
+  prefix_all [] ys a = All-nil P
+  prefix_all (x ∷ xs) ys a = All-cons P x xs (All-head P x (xs ++ ys) a) (prefix_all xs ys (All-tail P x (xs ++ ys) a))
 
   back_all : (xs ys : List Part) → All P (xs ++ ys) → All P ys
   back_all [] ys a = a
@@ -37,8 +37,8 @@ module _ (P : Part → Type 0) where
   if_all true xs ys h k = h
   if_all false xs ys h k = k
 
-  yard_all : (layer : ℕ) (front back : List Part) → All P front → All P back → All P (yard_on layer front back)
-  yard_all layer front back h k = if_all (nat_eq layer 0) front (if nat_eq layer 31 then back else []) h (if_all (nat_eq layer 31) back [] k (All-nil P))
+  yard_all : (layer : ℕ) (prefix back : List Part) → All P prefix → All P back → All P (yard_on layer prefix back)
+  yard_all layer prefix back h k = if_all (nat_eq layer 0) prefix (if nat_eq layer 31 then back else []) h (if_all (nat_eq layer 31) back [] k (All-nil P))
 
   placed_all : (copper : List Part) (hole : Option Hole) → All P copper → All P (hole_parts hole) → All P (placed_parts copper hole)
   placed_all [] hole c h = h
@@ -59,22 +59,22 @@ module _ (P : Part → Type 0) where
   lines_all Graphic h = All-nil P
   lines_all Fill h = All-nil P
   lines_all (Area title bans shape) h = All-nil P
-  lines_all (Body reference front back on_back) h = All-nil P
+  lines_all (Body reference prefix back on_back) h = All-nil P
   lines_all (Note about layer) h = All-nil P
 
-  fronts_all : (what : What) → All P (kind_parts what) → All P (front_of what)
-  fronts_all (Body reference front back on_back) h = front_all front back h
-  fronts_all (Edge lines) h = All-nil P
-  fronts_all (Track width) h = All-nil P
-  fronts_all (Via size drill micro blind) h = All-nil P
-  fronts_all (Pad number reference) h = All-nil P
-  fronts_all Graphic h = All-nil P
-  fronts_all Fill h = All-nil P
-  fronts_all (Area title bans shape) h = All-nil P
-  fronts_all (Note about layer) h = All-nil P
+  prefixes_all : (what : What) → All P (kind_parts what) → All P (front_of what)
+  prefixes_all (Body reference prefix back on_back) h = prefix_all prefix back h
+  prefixes_all (Edge lines) h = All-nil P
+  prefixes_all (Track width) h = All-nil P
+  prefixes_all (Via size drill micro blind) h = All-nil P
+  prefixes_all (Pad number reference) h = All-nil P
+  prefixes_all Graphic h = All-nil P
+  prefixes_all Fill h = All-nil P
+  prefixes_all (Area title bans shape) h = All-nil P
+  prefixes_all (Note about layer) h = All-nil P
 
   backs_all : (what : What) → All P (kind_parts what) → All P (back_of what)
-  backs_all (Body reference front back on_back) h = back_all front back h
+  backs_all (Body reference prefix back on_back) h = back_all prefix back h
   backs_all (Edge lines) h = All-nil P
   backs_all (Track width) h = All-nil P
   backs_all (Via size drill micro blind) h = All-nil P
@@ -86,7 +86,7 @@ module _ (P : Part → Type 0) where
 
   areas_all : (layer : ℕ) (what : What) → All P (kind_parts what) → All P (area_on layer what)
   areas_all layer (Area title bans shape) h = on_all layer (shape ∷ []) h
-  areas_all layer (Body reference front back on_back) h = All-nil P
+  areas_all layer (Body reference prefix back on_back) h = All-nil P
   areas_all layer (Edge lines) h = All-nil P
   areas_all layer (Track width) h = All-nil P
   areas_all layer (Via size drill micro blind) h = All-nil P
@@ -96,7 +96,7 @@ module _ (P : Part → Type 0) where
   areas_all layer (Note about at_layer) h = All-nil P
 
   seen_all : (layer : ℕ) (item : Item) (what : What) → All P (kind_parts what) → All P (on_layer layer (parts_asked item)) → All P (placed_on layer item what)
-  seen_all layer item (Body reference front back on_back) h k = yard_all layer front back (front_all front back h) (back_all front back h)
+  seen_all layer item (Body reference prefix back on_back) h k = yard_all layer prefix back (prefix_all prefix back h) (back_all prefix back h)
   seen_all layer item (Area title bans shape) h k = k
   seen_all layer item (Edge lines) h k = k
   seen_all layer item (Track width) h k = k
@@ -108,13 +108,13 @@ module _ (P : Part → Type 0) where
 
   module _ (item : Item) (all : All P (parts_of item)) where
     copper : All P item.copper
-    copper = front_all item.copper (hole_parts item.hole ++ kind_parts item.what) all
+    copper = prefix_all item.copper (hole_parts item.hole ++ kind_parts item.what) all
 
     rest : All P (hole_parts item.hole ++ kind_parts item.what)
     rest = back_all item.copper (hole_parts item.hole ++ kind_parts item.what) all
 
     pub hole : All P (hole_parts item.hole)
-    hole = front_all (hole_parts item.hole) (kind_parts item.what) rest
+    hole = prefix_all (hole_parts item.hole) (kind_parts item.what) rest
 
     kind : All P (kind_parts item.what)
     kind = back_all (hole_parts item.hole) (kind_parts item.what) rest
@@ -131,8 +131,8 @@ module _ (P : Part → Type 0) where
     pub lines : All P (lines_of item.what)
     lines = lines_all item.what kind
 
-    pub fronts : All P (front_of item.what)
-    fronts = fronts_all item.what kind
+    pub prefixes : All P (front_of item.what)
+    prefixes = prefixes_all item.what kind
 
     pub backs : All P (back_of item.what)
     backs = backs_all item.what kind
@@ -171,7 +171,7 @@ module _ (P Q : Part → Type 0) (a b : Item) (all_a : All P (parts_of a)) (all_
   faced_between EdgesAndCopper (Copper layer) =
       both (lines_of a.what) (copper_on layer b) (lines_of b.what) (copper_on layer a) (lines P a all_a) (on_copper Q b all_b layer) (lines Q b all_b) (on_copper P a all_a layer)
   faced_between EdgesAndCopper Nowhere = both (lines_of a.what) (hole_alone b) (lines_of b.what) (hole_alone a) (lines P a all_a) (alone Q b all_b) (lines Q b all_b) (alone P a all_a)
-  faced_between Yards FrontYard = there (front_of a.what) (front_of b.what) (fronts P a all_a) (fronts Q b all_b)
+  faced_between Yards FrontYard = there (front_of a.what) (front_of b.what) (prefixes P a all_a) (prefixes Q b all_b)
   faced_between Yards BackYard = there (back_of a.what) (back_of b.what) (backs P a all_a) (backs Q b all_b)
   faced_between Areas (Copper layer) =
       both (area_on layer a.what) (placed_on layer b b.what) (area_on layer b.what) (placed_on layer a a.what) (areas P a all_a layer) (seen Q b all_b layer) (areas Q b all_b layer) (seen P a all_a layer)

@@ -5,19 +5,19 @@ use Rattle.std.proofs.lemmas.List.Elements.{All-nil}
 use Rattle.geo_seg.specs.declared.boxes.Bounds.{Bounds}
 use Rattle.geo_seg.specs.Boxes.{are_near, AreClear}
 use Rattle.board_items.specs.declared.parts.Part.{Part}
-use Rattle.board_items.specs.Parts.{parts_of}
+use Rattle.board_items.specs.ItemParts.{parts_of}
 use Rattle.board_items.specs.Extents.{LiesIn, AreBoundsOf}
 use Rattle.cond_lang.specs.declared.kind.Kind.{Kind}
 use Rattle.cond_lang.specs.declared.kind.Family.{Family}
 use Rattle.cond_lang.specs.declared.kind.Family.TheVariants.{Meets, Keeps, Limits, Forbids}
-use Rattle.cond_lang.specs.Kinds.{family}
+use Rattle.cond_lang.specs.CheckKinds.{family}
 use Rattle.rule_pick.specs.Picks.{Pick}
 use Rattle.rule_pick.specs.Reach.{asks_distance, is_between_two, IsReach}
-use Rattle.item_copper.proofs.Rooms.{all_lie}
+use Rattle.item_copper.proofs.ItemBoxes.{all_lie}
 use Rattle.item_copper.proofs.Far.{IsFar, far_in, far_back, each_lies, near_unless}
 use Rattle.kind_subjects.specs.declared.layer.RowLayer.{RowLayer}
 use Rattle.pair_check.specs.PlainRow.{PlainRow}
-use Rattle.kind_subjects.specs.Layers.{asked_layer}
+use Rattle.kind_subjects.specs.TriedLayers.{asked_layer}
 use Rattle.kind_subjects.specs.Facing.{MeetAt, KeepAt}
 use Rattle.pair_check.specs.Pairs.{Deciders, Pair, IsPickOf, SaysNear, BreaksBy, Breaks}
 use Rattle.pair_check.specs.Rows.{Checked, deciders, IsRowOfTwo}

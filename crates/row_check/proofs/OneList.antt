@@ -10,8 +10,8 @@ use Rattle.cond_lang.specs.Rules.{PlainRule}
 use Rattle.cond_lang.specs.declared.kind.Kind.{Kind}
 use Rattle.cond_lang.specs.declared.kind.Family.{Family}
 use Rattle.cond_lang.specs.declared.kind.Family.TheVariants.{Meets, Keeps, Limits, Forbids}
-use Rattle.cond_lang.specs.Kinds.{family}
-use Rattle.net_class.specs.Classes.{PlainMins}
+use Rattle.cond_lang.specs.CheckKinds.{family}
+use Rattle.net_class.specs.NetClasses.{PlainMins}
 use Rattle.rule_pick.specs.declared.facts.Facts.{Facts}
 use Rattle.rule_pick.specs.declared.kinds.Source.TheVariants.{Rule}
 use Rattle.rule_pick.specs.Deciding.{IsPick}

@@ -9,8 +9,8 @@ use Rattle.box_index.specs.Tiles.{PlainIndex, IsRising}
 use Rattle.box_index.proofs.EntryLists.{pairs_first, pairs_rest}
 use Rattle.pair_check.specs.PlainRow.{PlainRow}
 use Rattle.pair_check.specs.Rows.{Checked, IsRowOfTwo, Before, AreRowsOfPair}
-use Rattle.row_check.specs.Tiles.{pairs_of}
-use Rattle.row_check.specs.Walks.{is_owned, pairs_with, IsOfOne, AreRowsOfPairs}
+use Rattle.row_check.specs.RowsOfTile.{pairs_of}
+use Rattle.row_check.specs.EntryWalks.{is_owned, pairs_with, IsOfOne, AreRowsOfPairs}
 use Rattle.board_index.proofs.OneList.{here, nothing, cons_case}
 use Rattle.row_check.proofs.RowLists.{pairs_append, across, no_rows, alike, joined}
 

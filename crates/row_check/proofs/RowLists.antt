@@ -16,13 +16,13 @@ module _ {X : Type 0} where
       AllPairs-cons R x (xs ++ ys) (All-append (R x) xs ys (pairs_first R x xs h) (All-head (λ z. All (R z) ys) x xs k))
       (pairs_append R xs ys (pairs_rest R x xs h) g (All-tail (λ z. All (R z) ys) x xs k))
 
-  pub pairs_front : (R : X → X → Type 0) (xs ys : List X) → AllPairs R (xs ++ ys) → AllPairs R xs
-  pairs_front R [] ys h = λ i j d l m. absurd (omega arith)
-  pairs_front R (x ∷ xs) ys h =
+  pub pairs_prefix : (R : X → X → Type 0) (xs ys : List X) → AllPairs R (xs ++ ys) → AllPairs R xs
+  pairs_prefix R [] ys h = λ i j d l m. absurd (omega arith)
+  pairs_prefix R (x ∷ xs) ys h =
       let first = pairs_first R x (xs ++ ys) h in
-      AllPairs-cons R x xs (λ k d l. All-contains (R x) (xs ++ ys) (get_or xs k d) first (Contains-append_left xs ys (get_or xs k d) (Contains-get_or xs k d l))) (pairs_front R xs ys (pairs_rest R x (xs ++ ys) h))
+      AllPairs-cons R x xs (λ k d l. All-contains (R x) (xs ++ ys) (get_or xs k d) first (Contains-append_left xs ys (get_or xs k d) (Contains-get_or xs k d l))) (pairs_prefix R xs ys (pairs_rest R x (xs ++ ys) h))
 
-  -- what stands in the front part with what stands behind it
+  -- what stands in the prefix with what stands behind it
   pub across : (R : X → X → Type 0) (xs ys : List X) → AllPairs R (xs ++ ys) → (x y : X) → Contains xs x → Contains ys y → R x y
   across R [] ys h x y cx cy = absurd (nothing x cx)
   across R (z ∷ xs) ys h x y cx cy = by_case (λ k. across R xs ys (pairs_rest R z (xs ++ ys) h) x y k cy) (cons_case z x xs cx)

@@ -10,13 +10,13 @@ use Rattle.pair_check.specs.PlainRow.{PlainRow}
 use Rattle.pair_check.specs.Alone.{BreaksNothing}
 use Rattle.pair_check.specs.Singles.{BreaksAlone}
 use Rattle.pair_check.specs.Rows.{Checked, deciders, IsRowOfOne, AreRowsOfItem}
-use Rattle.row_check.specs.Walks.{HasMore}
+use Rattle.row_check.specs.EntryWalks.{HasAddedRows}
 use Rattle.row_check.specs.Whole.{AreSingles}
 use Rattle.board_index.proofs.OneList.{nothing}
 use Rattle.row_check.proofs.RowLists.{no_rows, joined}
 use Rattle.row_check.proofs.WholeRows.{below_next}
 
-pub nothing_more : (P : List PlainRow → Type 0) (rows : List PlainRow) → P [] → HasMore P rows rows
+pub nothing_more : (P : List PlainRow → Type 0) (rows : List PlainRow) → P [] → HasAddedRows P rows rows
 nothing_more P rows p = record { more = []; is = sym (append-nil rows); pass = p }
 
 missing : (item : Item) → None ≡ Some item → ⊥
@@ -56,12 +56,12 @@ module _ (c : Checked) (ids : List ℕ) (up : IsStrictlyIncreasing ids) where
         by row one (inl m) = inl (one, m)
         by row one (inr e) = inr (one, sym e)
 
-    pub one_single_more : (old rows now : List PlainRow) → HasMore (AreRowsOfItem c (get_or ids k 0)) rows now → HasMore (AreSingles c (take k ids)) old rows → HasMore (AreSingles c (take (k + 1) ids)) old now
+    pub one_single_more : (old rows now : List PlainRow) → HasAddedRows (AreRowsOfItem c (get_or ids k 0)) rows now → HasAddedRows (AreSingles c (take k ids)) old rows → HasAddedRows (AreSingles c (take (k + 1) ids)) old now
     one_single_more old rows now more so_far = record {
       more = so_far.more ++ more.more;
       is = more.is ∙ (ap (λ rs. rs ++ more.more) so_far.is ∙ append_assoc old so_far.more more.more);
       pass = singles_on so_far.more more.more so_far.pass more.pass;
     }
 
-  pub all_singles : (k : ℕ) (old rows : List PlainRow) → length ids ≤ k → HasMore (AreSingles c (take k ids)) old rows → HasMore (AreSingles c ids) old rows
+  pub all_singles : (k : ℕ) (old rows : List PlainRow) → length ids ≤ k → HasAddedRows (AreSingles c (take k ids)) old rows → HasAddedRows (AreSingles c ids) old rows
   all_singles k old rows l h = record { more = h.more; is = h.is; pass = subst (λ ns. AreSingles c ns h.more) (take_all k ids l) h.pass }

@@ -10,7 +10,7 @@ use Rattle.std.proofs.lemmas.List.Sorted.{IsPermutation-keeps, All-permutation, 
 use Rattle.std.specs.Cmp.{IsTotalOrder}
 use Rattle.std.proofs.lemmas.Bool.Decides.{nat_tests}
 use Rattle.std.proofs.lemmas.Cmp.{nat_cmp_total, then_total, on_total}
-use Rattle.cond_lang.specs.Kinds.{kind_number}
+use Rattle.cond_lang.specs.CheckKinds.{kind_number}
 use Rattle.pair_check.specs.PlainRow.{PlainRow}
 use Rattle.pair_check.specs.Rows.{Before, AreRowsWhere}
 use Rattle.row_check.specs.declared.order.Place.{Place}

@@ -11,8 +11,8 @@ use Rattle.box_index.specs.declared.entry.Entry.{Entry}
 use Rattle.box_index.specs.Tiles.{PlainIndex, IsSoundIndex, margin, is_in, near_of, owner_of, meets_tile}
 use Rattle.box_index.proofs.TileLemmas.{near_sides, owner_first, owner_second}
 use Rattle.box_index.proofs.EntryLists.{filter_none}
-use Rattle.row_check.specs.Tiles.{pairs_of, is_changed, is_asked, do_meet, most_steps}
-use Rattle.row_check.specs.Walks.{is_owned, partners_of}
+use Rattle.row_check.specs.RowsOfTile.{pairs_of, is_changed, is_asked, do_meet, most_steps}
+use Rattle.row_check.specs.EntryWalks.{is_owned, partners_of}
 use Rattle.row_check.proofs.PairLists.{Pair}
 
 -- ---- the pairs that are tested

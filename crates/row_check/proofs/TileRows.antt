@@ -7,7 +7,7 @@ use Rattle.std.proofs.lemmas.List.Elements.{All-nil, All-head, All-tail, All-app
 use Rattle.geo_seg.specs.Boxes.{are_near}
 use Rattle.board_items.specs.declared.item.Item.{Item}
 use Rattle.board_items.specs.Boards.{PlainBoard, item_at}
-use Rattle.board_items.specs.Parts.{parts_of}
+use Rattle.board_items.specs.ItemParts.{parts_of}
 use Rattle.board_items.specs.Extents.{AreBoundsOf}
 use Rattle.box_index.specs.declared.entry.Entry.{Entry}
 use Rattle.box_index.specs.Tiles.{PlainIndex, IsSoundIndex, IsRising, AnswersForNone, margin, owner_of}
@@ -15,9 +15,9 @@ use Rattle.box_index.proofs.EntryLists.{pairs_first, pairs_rest}
 use Rattle.box_index.proofs.Buckets.{contains_filter}
 use Rattle.pair_check.specs.PlainRow.{PlainRow}
 use Rattle.pair_check.specs.Rows.{Checked, IsRowOfTwo}
-use Rattle.board_index.specs.Holding.{IsEntryOf}
-use Rattle.row_check.specs.Tiles.{IsIndexOf, IsAskedIn, AreRowsOfTile, pairs_of, is_changed}
-use Rattle.row_check.specs.Walks.{is_owned, AreRowsOfPairs}
+use Rattle.board_index.specs.IndexedItems.{IsEntryOf}
+use Rattle.row_check.specs.RowsOfTile.{IsIndexOf, IsAskedIn, AreRowsOfTile, pairs_of, is_changed}
+use Rattle.row_check.specs.EntryWalks.{is_owned, AreRowsOfPairs}
 use Rattle.board_index.proofs.OneList.{here, behind, nothing, cons_case}
 use Rattle.row_check.proofs.RowLists.{alike, no_rows}
 use Rattle.row_check.proofs.PairLists.{Pair, Passes}

@@ -16,12 +16,12 @@ use Rattle.box_index.specs.Tiles.{PlainIndex, IsSoundIndex, IsRising, is_in, nea
 use Rattle.box_index.proofs.EntryLists.{pairs_first, pairs_rest}
 use Rattle.pair_check.specs.PlainRow.{PlainRow}
 use Rattle.pair_check.specs.Rows.{Checked}
-use Rattle.board_index.specs.Holding.{IsEntryOf}
-use Rattle.row_check.specs.Tiles.{IsIndexOf, AreRowsOfTile, pairs_of, is_changed, most_steps}
-use Rattle.row_check.specs.Walks.{is_owned, partners_of, pairs_with, AreRowsOfPairs, HasMore}
+use Rattle.board_index.specs.IndexedItems.{IsEntryOf}
+use Rattle.row_check.specs.RowsOfTile.{IsIndexOf, AreRowsOfTile, pairs_of, is_changed, most_steps}
+use Rattle.row_check.specs.EntryWalks.{is_owned, partners_of, pairs_with, AreRowsOfPairs, HasAddedRows}
 use Rattle.row_check.proofs.PairLists.{Pair, Comes, no_pairs, join_pairs, pairs_rise}
 use Rattle.row_check.proofs.TestedPairs.{tested, test_of, tested_is, tested_all, steps_are, touches}
-use Rattle.row_check.proofs.RowLists.{pairs_front}
+use Rattle.row_check.proofs.RowLists.{pairs_prefix}
 use Rattle.row_check.proofs.TileRows.{tile_rows}
 
 -- ---- the ids that changed
@@ -109,29 +109,29 @@ module _ (c : Checked) (index : PlainIndex) (tile : ℕ) (changed : List ℕ) wh
     whole_now : (t.done ++ With) ++ Tested others ≡ Tested all
     whole_now = append_assoc t.done With (Tested others) ∙ ap (λ xs. t.done ++ Tested xs) (sym cons) ∙ t.whole
 
-    pub front_entries : AreEntries c (first ∷ others)
-    front_entries = subst (AreEntries c) cons t.entries
+    pub prefix_entries : AreEntries c (first ∷ others)
+    prefix_entries = subst (AreEntries c) cons t.entries
 
     pub first_touched : touched ≡ filter (touches changed) (first ∷ others)
     first_touched = t.touched_are ∙ ap (filter (touches changed)) cons
 
     pub its_entries : (with : List Entry) → with ≡ partners_of (touches changed) first others → AreEntries c (first ∷ with)
-    its_entries with w = subst (λ xs. AreEntries c (first ∷ xs)) (sym w) (partner_entries c (touches changed) first others front_entries)
+    its_entries with w = subst (λ xs. AreEntries c (first ∷ xs)) (sym w) (partner_entries c (touches changed) first others prefix_entries)
 
     pub tested_more : (with rest : List Entry) (now : List PlainRow) (later_steps : ℕ) → with ≡ partners_of (touches changed) first others → rest ≡ filter (touches changed) others
-        → HasMore (AreRowsOfPairs c (pairs_with index tile first with)) rows now → later_steps ≡ steps + length (pairs_with index tile first with) → IsTestedTo c index tile changed all others rest now start later_steps
+        → HasAddedRows (AreRowsOfPairs c (pairs_with index tile first with)) rows now → later_steps ≡ steps + length (pairs_with index tile first with) → IsTestedTo c index tile changed all others rest now start later_steps
     tested_more with rest now later_steps w r more counted =
         let pass = subst (λ xs. AreRowsOfPairs c (pairs_with index tile first xs) more.more) w more.pass in
         let long = length-append t.done With in
         let count = counted ∙ ap (λ xs. steps + length (pairs_with index tile first xs)) w in
         let before = t.counted in record {
           touched_are = r;
-          entries = rest_entries c first others front_entries;
+          entries = rest_entries c first others prefix_entries;
           rise = t.rise;
           done = t.done ++ With;
           whole = whole_now;
           rows_are = subst (AreRowsOfPairs c (t.done ++ With)) (sym more.is)
-              (join_pairs c t.done With rows more.more (pairs_front Comes (t.done ++ With) (Tested others) (subst (AllPairs Comes) (sym whole_now) t.rise)) t.rows_are pass);
+              (join_pairs c t.done With rows more.more (pairs_prefix Comes (t.done ++ With) (Tested others) (subst (AllPairs Comes) (sym whole_now) t.rise)) t.rows_are pass);
           counted = omega arith;
         }
 

@@ -19,8 +19,8 @@ use Rattle.box_index.proofs.Buckets.{contains_filter, complete}
 use Rattle.pair_check.specs.PlainRow.{PlainRow}
 use Rattle.pair_check.specs.Rows.{Checked, IsRowOfTwo, IsRowOfOne, IsRow, AreRows, AreRowsWhere}
 use Rattle.board_index.proofs.Numbers.{all_rise, has_number}
-use Rattle.row_check.specs.Tiles.{IsIndexOf, IsAskedIn, AreRowsOfTile}
-use Rattle.row_check.specs.Walks.{HasMore}
+use Rattle.row_check.specs.RowsOfTile.{IsIndexOf, IsAskedIn, AreRowsOfTile}
+use Rattle.row_check.specs.EntryWalks.{HasAddedRows}
 use Rattle.row_check.specs.Whole.{StandApart, AreOnceWhere, AreEnough, AreSingles, IsAskedInOne, IsOfTiles, IsOfChanged, ids_of}
 use Rattle.board_index.proofs.OneList.{here, behind, nothing, cons_case}
 use Rattle.row_check.proofs.RowLists.{pairs_append, across, alike}
@@ -50,8 +50,8 @@ once_joined P Q R xs ys apart on_p on_q back p q = once_append P Q R xs ys apart
 pub below_next : (xs : List ℕ) (k : ℕ) → IsStrictlyIncreasing xs → k < length xs → (x : ℕ) → Contains (take k xs) x → x < get_or xs k 0
 below_next xs k up l x c =
     let R : ℕ → ℕ → Type 0 = λ a b. a < b in
-    let front = subst (AllPairs R) (take_more xs k 0 l) (pairs_take R (k + 1) xs (AllPairs-from_increasing xs up)) in
-    across R (take k xs) (get_or xs k 0 ∷ []) front x (get_or xs k 0) c (here (get_or xs k 0) [])
+    let prefix = subst (AllPairs R) (take_more xs k 0 l) (pairs_take R (k + 1) xs (AllPairs-from_increasing xs up)) in
+    across R (take k xs) (get_or xs k 0 ∷ []) prefix x (get_or xs k 0) c (here (get_or xs k 0) [])
 
 increasing : (xs : List ℕ) → AllPairs (λ a b. a < b) xs → IsStrictlyIncreasing xs
 increasing xs h k l = h k (k + 1) 0 (omega arith) l
@@ -147,7 +147,7 @@ module _ (c : Checked) (index : PlainIndex) (sound : IsSoundIndex index) (is : I
         by_case (inl m) = inl (h.0, record { tile = h.1.tile; among = m; asked = h.1.asked })
         by_case (inr e) = inr (h.0, subst (λ t. IsAskedIn index t changed row.first row.second) (sym e) h.1.asked)
 
-    pub one_tile_more : (rows now : List PlainRow) → HasMore (AreRowsOfTile c index (get_or tiles k 0) changed) rows now → AreOnceWhere (IsOfTiles c index (take k tiles) changed) rows → AreOnceWhere (IsOfTiles c index (take (k + 1) tiles) changed) now
+    pub one_tile_more : (rows now : List PlainRow) → HasAddedRows (AreRowsOfTile c index (get_or tiles k 0) changed) rows now → AreOnceWhere (IsOfTiles c index (take k tiles) changed) rows → AreOnceWhere (IsOfTiles c index (take (k + 1) tiles) changed) now
     one_tile_more rows now more r =
         let both = once_joined P Q R rows more.more tiles_apart
         (λ row h. (h.0, record { tile = h.1.tile; among = Contains-append_left (take k tiles) (get_or tiles k 0 ∷ []) h.1.tile h.1.among; asked = h.1.asked }))
@@ -199,7 +199,7 @@ module _ (c : Checked) (index : PlainIndex) (sound : IsSoundIndex index) (is : I
           subst (λ ts. Contains ts tile) (sym e) (contains_filter (λ t. is_held index t && (true || is_met_by (margin index) [] t)) (numbers_below tile_count) tile (has_number tile_count tile lt) test)
 
   -- the rows of tiles with those of single items
-  pub changed_once : (tiles changed : List ℕ) (pairs now : List PlainRow) → AreOnceWhere (IsOfTiles c index tiles changed) pairs → HasMore (AreSingles c changed) pairs now → AreOnceWhere (IsOfChanged c index tiles changed) now
+  pub changed_once : (tiles changed : List ℕ) (pairs now : List PlainRow) → AreOnceWhere (IsOfTiles c index tiles changed) pairs → HasAddedRows (AreSingles c changed) pairs now → AreOnceWhere (IsOfChanged c index tiles changed) now
   changed_once tiles changed pairs now p more =
       subst (AreOnceWhere (IsOfChanged c index tiles changed)) (sym more.is)
       (once_joined (IsOfTiles c index tiles changed) (λ row. IsRowOfOne c row × Contains changed row.first) (IsOfChanged c index tiles changed) pairs more.more

@@ -5,11 +5,11 @@ use Rattle.geo_seg.specs.Boxes.{IsPartOf, do_boxes_meet}
 use Rattle.box_index.specs.declared.entry.Entry.{Entry}
 use Rattle.box_index.specs.Tiles.{PlainIndex}
 use Rattle.row_check.specs.declared.blocks.Boxes.{Boxes}
-use Rattle.row_check.specs.Walks.{is_owned}
+use Rattle.row_check.specs.EntryWalks.{is_owned}
 
 -- where the last k blocks of the entries and one more are left, that one lies in the box with the number k
 pub record AreBlocks (size : ℕ) (boxes : List Bounds) (entries : List Entry) : Type 0 where
-  pub each : (front end : List Entry) → entries ≡ front ++ end → (k : ℕ) (b : Bounds) → slice_get boxes k ≡ Some b → length end ≡ k * size + size → All (λ e. IsPartOf e.bounds b) (take size end)
+  pub each : (prefix end : List Entry) → entries ≡ prefix ++ end → (k : ℕ) (b : Bounds) → slice_get boxes k ≡ Some b → length end ≡ k * size + size → All (λ e. IsPartOf e.bounds b) (take size end)
 
 -- the boxes of blocks of 4 and of 32 entries
 pub record AreBoxes (boxes : Boxes) (entries : List Entry) : Type 0 where

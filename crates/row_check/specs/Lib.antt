@@ -1,6 +1,6 @@
-pub mod Tiles
-pub mod Walks
+pub mod RowsOfTile
+pub mod EntryWalks
 pub mod Blocks
 pub mod Whole
-pub mod Hands
-pub mod Copper
+pub mod Operands
+pub mod CopperSeparation

@@ -5,11 +5,11 @@ use Rattle.std.specs.List.Sorted.{IsStrictlyIncreasing}
 use Rattle.board_items.specs.Boards.{PlainBoard}
 use Rattle.box_index.specs.declared.entry.Entry.{Entry}
 use Rattle.box_index.specs.Tiles.{PlainIndex, is_in, tile_count}
-use Rattle.cond_lang.specs.Kinds.{kind_number}
+use Rattle.cond_lang.specs.CheckKinds.{kind_number}
 use Rattle.pair_check.specs.PlainRow.{PlainRow}
 use Rattle.pair_check.specs.Rows.{Checked, IsRowOfTwo, IsRowOfOne, Before, AreRowsWhere}
 use Rattle.row_check.specs.declared.order.Place.{Place}
-use Rattle.row_check.specs.Tiles.{IsAskedIn}
+use Rattle.row_check.specs.RowsOfTile.{IsAskedIn}
 
 -- one of them comes before the other
 abbrev pub StandApart : PlainRow → PlainRow → Type 0

@@ -58,7 +58,7 @@ fn box_of(block: &[Entry]) -> Bounds
     }
 }
 
-/// The boxes of all blocks of so many entries, the last block first. Only want of memory refuses it.
+/// The boxes of all blocks of so many entries, the last block first. Only running out of memory refuses it.
 pub(crate) fn boxes_of(
     alloc: Global,
     entries: &[Entry],
@@ -70,9 +70,9 @@ pub(crate) fn boxes_of(
     let mut boxes = Vec::new(alloc);
     let mut left = entries;
     'walk: while size <= left.len() {
-        let (front, block) = left.split_at(left.len() - size);
+        let (prefix, block) = left.split_at(left.len() - size);
         boxes.push(box_of(block))?;
-        left = front;
+        left = prefix;
     }
     Ok(boxes)
 }

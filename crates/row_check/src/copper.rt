@@ -5,8 +5,8 @@ ghost use Rattle.std.specs.Prelude.{◌≡◌, ◌≤ℤ◌, ◌+ℤ◌, pos, tr
 ghost use Rattle.plain_types.specs.Lengths.{IsLength};
 ghost use Rattle.geo_seg.specs.Boxes.{FitsWithin, AreClear};
 ghost use Rattle.cond_lang.specs.Rules.{plain_constraint, plain_rule};
-ghost use Rattle.pair_check.specs.Views.{deciders_of};
-ghost use Rattle.row_check.specs.Copper.{is_of_copper, AsksAtMost, EachAsksAtMost, AskAtMost, ItAsksAtMost, AreApart};
+ghost use Rattle.pair_check.specs.CheckViews.{deciders_of};
+ghost use Rattle.row_check.specs.CopperSeparation.{is_of_copper, AsksAtMost, EachAsksAtMost, AskAtMost, ItAsksAtMost, AreBoxesApart};
 
 use board_items::Nm;
 use box_index::Entry;
@@ -167,7 +167,7 @@ pub(crate) fn are_apart(
 ) -> bool
     requires first { FitsWithin (pos 2000000000) first.now.bounds }
     requires second { FitsWithin (pos 2000000000) second.now.bounds }
-    ensures { result ≡ true → AreApart asked.nm first.now second.now one.entry other.entry }
+    ensures { result ≡ true → AreBoxesApart asked.nm first.now second.now one.entry other.entry }
 {
     // what is of one net is told sooner without this
     if share_net(one.item, other.item) || !are_copper(one.item, other.item) {

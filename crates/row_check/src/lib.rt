@@ -6,9 +6,9 @@
 
 mod blocks;
 mod copper;
-mod hands;
 pub mod laws;
 pub mod near;
+mod operands;
 pub mod order;
 mod tile;
 mod whole;

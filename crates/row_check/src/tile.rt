@@ -3,21 +3,21 @@
 ghost use Rattle.std.specs.Prelude.{◌≡◌, ◌+◌, ◌<◌, ◌≤◌, ◌∷◌, ◌++◌, pos, Bool, All, length, filter, IfOk, OnOk};
 ghost use Rattle.std.specs.List.Sorted.{IsStrictlyIncreasing};
 ghost use Rattle.geo_seg.specs.Boxes.{FitsWithin, widened};
-ghost use Rattle.board_index.specs.Holding.{IsEntryOf};
+ghost use Rattle.board_index.specs.IndexedItems.{IsEntryOf};
 ghost use Rattle.box_index.specs.declared.entry.Entry.{Entry};
 ghost use Rattle.box_index.specs.Tiles.{IsRising, margin};
 ghost use Rattle.pair_check.specs.Asked.{IsNoteOf};
 ghost use Rattle.pair_check.specs.Rows.{AreRowsOfPair};
-ghost use Rattle.pair_check.specs.Views.{checked_by, deciders_of, IsWholeView};
+ghost use Rattle.pair_check.specs.CheckViews.{checked_by, deciders_of, IsWholeView};
 ghost use Rattle.row_check.specs.Blocks.{AreBoxes, StartsOwned};
-ghost use Rattle.row_check.specs.Copper.{AskAtMost};
-ghost use Rattle.row_check.specs.Hands.{StandsAt};
-ghost use Rattle.row_check.specs.Tiles.{IsIndexOf, AreRowsOfTile, is_changed, most_steps};
-ghost use Rattle.row_check.specs.Walks.{is_owned, partners_of, pairs_with, IsEndOf, AreRowsOfPairs, HasMore};
+ghost use Rattle.row_check.specs.CopperSeparation.{AskAtMost};
+ghost use Rattle.row_check.specs.Operands.{StandsAt};
+ghost use Rattle.row_check.specs.RowsOfTile.{IsIndexOf, AreRowsOfTile, is_changed, most_steps};
+ghost use Rattle.row_check.specs.EntryWalks.{is_owned, partners_of, pairs_with, IsEndOf, AreRowsOfPairs, HasAddedRows};
 
 use crate::blocks::{Boxes, LONG, SHORT, boxes_of, is_far, no_boxes};
 use crate::copper::{Length, are_apart, asked_of_copper};
-use crate::hands::{Hand, hand_at, hand_of, hands_of};
+use crate::operands::{Operand, operand_at, operand_of, operands_of};
 use box_index::{Entry, TileIndex, do_boxes_meet};
 use geo_seg::Bounds;
 use pair_check::{Asked, CheckView, PairRows, Row, Steps, test_two};
@@ -33,7 +33,7 @@ struct Tested<'a, 'b> {
     view: &'a CheckView<'b>,
     asked: Asked,
     of_copper: Length,
-    hands: &'a [Hand<'b>],
+    operands: &'a [Operand<'b>],
 }
 
 /// A tile of an index, and the boxes of the blocks of the entries that are walked there.
@@ -46,7 +46,7 @@ struct At<'a> {
 
 /// The rows so far, and a list for those of one pair.
 #[derive(Drop)]
-struct Sheet {
+struct RowSink {
     pair: PairRows,
     rows: Vec<Row>,
 }
@@ -66,7 +66,8 @@ fn is_changed(changed: &[u32], id: u32) -> bool
 /// The entries that changed.
 fn touched_of(alloc: Global, near: &[Entry], changed: &[u32]) -> Result<Vec<Entry>, AllocError>
     requires { IsStrictlyIncreasing changed.now }
-    ensures { IfOk result (λ touched. touched.items ≡ filter (λ (e : Entry). is_changed changed.now e.id) near.now) }
+    ensures { IfOk result (λ touched.
+        touched.items ≡ filter (λ (e : Entry). is_changed changed.now e.id) near.now) }
 {
     let mut touched = Vec::with_capacity(alloc, near.len().min(changed.len()))?;
     for entry in near {
@@ -98,8 +99,11 @@ fn partners<'a>(
     requires rising { IsRising (first.now ∷ later.now) }
     requires blocks { AreBoxes boxes later.now }
     ensures blocks { AreBoxes result.1 result.0.now }
-    ensures partners { (changed : Entry → Bool) → touched.now ≡ filter changed (first.now ∷ later.now) → result.0.now ≡ partners_of changed first.now later.now }
-    ensures touched { (changed : Entry → Bool) → touched.now ≡ filter changed (first.now ∷ later.now) → result.2.now ≡ filter changed later.now }
+    ensures partners { (changed : Entry → Bool) → touched.now
+        ≡ filter changed (first.now ∷ later.now)
+        → result.0.now ≡ partners_of changed first.now later.now }
+    ensures touched { (changed : Entry → Bool) → touched.now
+        ≡ filter changed (first.now ∷ later.now) → result.2.now ≡ filter changed later.now }
 {
     let Some((head, rest)) = touched.split_first() else {
         return (touched, no_boxes(touched), touched);
@@ -126,10 +130,10 @@ fn push_any(rows: &mut Vec<Row>, more: &[Row]) -> Result<(), AllocError>
 fn push_pair<L: Ledger>(
     tested: &Tested<'_, '_>,
     first: &Entry,
-    one: Hand<'_>,
+    one: Operand<'_>,
     second: &Entry,
-    other: Hand<'_>,
-    sheet: &mut Sheet,
+    other: Operand<'_>,
+    row_sink: &mut RowSink,
     steps: &mut Steps<L>,
 ) -> Result<(), AllocError>
     requires view { IsWholeView tested.now.view.now }
@@ -144,7 +148,9 @@ fn push_pair<L: Ledger>(
     requires second_fits { FitsWithin (pos 2000000000) second.now.bounds }
     requires first_there { IsEntryOf (checked_by tested.now.view.now).board first.now }
     requires second_there { IsEntryOf (checked_by tested.now.view.now).board second.now }
-    ensures rows { OnOk result (HasMore (AreRowsOfPair (checked_by tested.now.view.now) one.entry.id other.entry.id) sheet.old.rows.items sheet.new.rows.items) }
+    ensures rows { OnOk result (HasAddedRows
+        (AreRowsOfPair (checked_by tested.now.view.now) one.entry.id other.entry.id)
+        row_sink.old.rows.items row_sink.new.rows.items) }
     ensures step { steps.new ≡ steps.old + 1 }
 {
     steps.tick();
@@ -158,9 +164,9 @@ fn push_pair<L: Ledger>(
         one.single,
         other.id,
         other.single,
-        &mut sheet.pair,
+        &mut row_sink.pair,
     );
-    push_any(&mut sheet.rows, sheet.pair.as_slice())
+    push_any(&mut row_sink.rows, row_sink.pair.as_slice())
 }
 
 /// The others from the first for which the tile answers. Blocks that are far are passed over whole.
@@ -193,32 +199,38 @@ fn push_beside<L: Ledger>(
     tested: &Tested<'_, '_>,
     at: &At<'_>,
     first: &Entry,
-    one: Hand<'_>,
+    one: Operand<'_>,
     others: &[Entry],
-    sheet: &mut Sheet,
+    row_sink: &mut RowSink,
     steps: &mut Steps<L>,
 ) -> Result<(), AllocError>
     requires view { IsWholeView tested.now.view.now }
     requires asked { IsNoteOf (deciders_of tested.now.view.now) tested.now.asked }
     requires of_copper { AskAtMost (deciders_of tested.now.view.now) tested.now.of_copper.nm }
-    requires hands { All (StandsAt (checked_by tested.now.view.now)) tested.now.hands.now }
+    requires operands { All (StandsAt (checked_by tested.now.view.now)) tested.now.operands.now }
     requires same { one.id ≡ first.now.id }
     requires first { StandsAt (checked_by tested.now.view.now) one }
     requires rising { IsRising (first.now ∷ others.now) }
     requires fits { All (λ e. FitsWithin (pos 2000000000) e.bounds) (first.now ∷ others.now) }
-    requires there { All (IsEntryOf (checked_by tested.now.view.now).board) (first.now ∷ others.now) }
+    requires there { All (IsEntryOf (checked_by tested.now.view.now).board)
+        (first.now ∷ others.now) }
     requires blocks { AreBoxes at.now.boxes others.now }
     requires owned { StartsOwned at.now.index.now at.now.tile first.now others.now }
-    ensures rows { OnOk result (HasMore (AreRowsOfPairs (checked_by tested.now.view.now) (pairs_with at.now.index.now at.now.tile first.now others.now)) sheet.old.rows.items sheet.new.rows.items) }
-    ensures steps { OnOk result (steps.new ≡ steps.old + length (pairs_with at.now.index.now at.now.tile first.now others.now)) }
-    ensures most { steps.new ≤ steps.old + length (pairs_with at.now.index.now at.now.tile first.now others.now) }
+    ensures rows { OnOk result (HasAddedRows
+        (AreRowsOfPairs (checked_by tested.now.view.now)
+        (pairs_with at.now.index.now at.now.tile first.now others.now)) row_sink.old.rows.items
+        row_sink.new.rows.items) }
+    ensures steps { OnOk result (steps.new
+        ≡ steps.old + length (pairs_with at.now.index.now at.now.tile first.now others.now)) }
+    ensures most { steps.new ≤ steps.old
+        + length (pairs_with at.now.index.now at.now.tile first.now others.now) }
 {
     let mut left = others;
     'walk: while let Some((second, rest)) = left.split_first() {
-        let Some(other) = hand_at(tested.view, tested.hands, left.len(), second.id) else {
+        let Some(other) = operand_at(tested.view, tested.operands, left.len(), second.id) else {
             return Ok(());
         };
-        push_pair(tested, first, one, second, other, sheet, steps)?;
+        push_pair(tested, first, one, second, other, row_sink, steps)?;
         left = owned_from(at, first, rest);
     }
     Ok(())
@@ -230,52 +242,58 @@ fn push_rows<L: Ledger>(
     at: &At<'_>,
     first: &Entry,
     others: &[Entry],
-    sheet: &mut Sheet,
+    row_sink: &mut RowSink,
     steps: &mut Steps<L>,
 ) -> Result<(), AllocError>
     requires view { IsWholeView tested.now.view.now }
     requires asked { IsNoteOf (deciders_of tested.now.view.now) tested.now.asked }
     requires of_copper { AskAtMost (deciders_of tested.now.view.now) tested.now.of_copper.nm }
-    requires hands { All (StandsAt (checked_by tested.now.view.now)) tested.now.hands.now }
+    requires operands { All (StandsAt (checked_by tested.now.view.now)) tested.now.operands.now }
     requires rising { IsRising (first.now ∷ others.now) }
     requires fits { All (λ e. FitsWithin (pos 2000000000) e.bounds) (first.now ∷ others.now) }
-    requires there { All (IsEntryOf (checked_by tested.now.view.now).board) (first.now ∷ others.now) }
+    requires there { All (IsEntryOf (checked_by tested.now.view.now).board)
+        (first.now ∷ others.now) }
     requires blocks { AreBoxes at.now.boxes others.now }
-    ensures rows { OnOk result (HasMore (AreRowsOfPairs (checked_by tested.now.view.now) (pairs_with at.now.index.now at.now.tile first.now others.now)) sheet.old.rows.items sheet.new.rows.items) }
-    ensures steps { OnOk result (steps.new ≡ steps.old + length (pairs_with at.now.index.now at.now.tile first.now others.now)) }
-    ensures most { steps.new ≤ steps.old + length (pairs_with at.now.index.now at.now.tile first.now others.now) }
+    ensures rows { OnOk result (HasAddedRows
+        (AreRowsOfPairs (checked_by tested.now.view.now)
+        (pairs_with at.now.index.now at.now.tile first.now others.now)) row_sink.old.rows.items
+        row_sink.new.rows.items) }
+    ensures steps { OnOk result (steps.new
+        ≡ steps.old + length (pairs_with at.now.index.now at.now.tile first.now others.now)) }
+    ensures most { steps.new ≤ steps.old
+        + length (pairs_with at.now.index.now at.now.tile first.now others.now) }
 {
     let owned = owned_from(at, first, others);
     if owned.is_empty() {
         return Ok(());
     }
-    let Some(one) = hand_of(tested.view, first.id) else {
+    let Some(one) = operand_of(tested.view, first.id) else {
         return Ok(());
     };
-    push_beside(tested, at, first, one, owned, sheet, steps)
+    push_beside(tested, at, first, one, owned, row_sink, steps)
 }
 
 /// The items of all entries, where enough of them changed: a pair is then a look less.
-fn hands_if<'a>(
+fn operands_if<'a>(
     alloc: Global,
     view: &CheckView<'a>,
     near: &[Entry],
     count: usize,
-) -> Result<Vec<Hand<'a>>, AllocError>
+) -> Result<Vec<Operand<'a>>, AllocError>
     requires { IsWholeView view.now }
-    ensures { IfOk result (λ hands. All (StandsAt (checked_by view.now)) hands.items) }
+    ensures { IfOk result (λ operands. All (StandsAt (checked_by view.now)) operands.items) }
 {
     if count < MANY {
         return Ok(Vec::new(alloc));
     }
-    hands_of(alloc, view, near)
+    operands_of(alloc, view, near)
 }
 
 /// The rows of all pairs that have an id in `changed` and for which the tile answers, by the first id, then by the second,
 /// then by the number of the kind. Each pair is tested in one tile.
 ///
 /// `changed` rises. The index holds the items of the board under their bounds, and reaches as far as anything is asked for. A
-/// pair costs one step at most, and none where the widened bounds do not meet. Only want of memory refuses it.
+/// pair costs one step at most, and none where the widened bounds do not meet. Only running out of memory refuses it.
 pub fn test_tile<L: Ledger>(
     alloc: Global,
     view: &CheckView,
@@ -287,7 +305,8 @@ pub fn test_tile<L: Ledger>(
     requires view { IsWholeView view.now }
     requires index { IsIndexOf (checked_by view.now) index.now }
     requires changed { IsStrictlyIncreasing changed.now }
-    ensures rows { IfOk result (λ rows. AreRowsOfTile (checked_by view.now) index.now tile changed.now rows.items) }
+    ensures rows { IfOk result (λ rows.
+        AreRowsOfTile (checked_by view.now) index.now tile changed.now rows.items) }
     ensures steps { steps.new ≤ steps.old + most_steps index.now tile changed.now }
 {
     let near = index.near(tile);
@@ -303,26 +322,26 @@ pub fn test_tile<L: Ledger>(
         short: &short_boxes,
         long: &long_boxes,
     };
-    let all_hands = hands_if(alloc, view, near, all_touched.len())?;
-    let hands: &[Hand<'_>] = &all_hands;
+    let all_operands = operands_if(alloc, view, near, all_touched.len())?;
+    let operands: &[Operand<'_>] = &all_operands;
     let of_copper = asked_of_copper(view);
     let tested = Tested {
         view,
         asked,
         of_copper,
-        hands,
+        operands,
     };
     let rows = Vec::new(alloc);
     let pair = PairRows::new(alloc);
-    let mut sheet = Sheet { pair, rows };
+    let mut row_sink = RowSink { pair, rows };
     let mut later = near;
     let mut touched: &[Entry] = &all_touched;
     'entries: while let Some((first, others)) = later.split_first() {
         let (with, boxes, rest) = partners(first, others, boxes, touched);
         let at = At { index, tile, boxes };
-        push_rows(&tested, &at, first, with, &mut sheet, steps)?;
+        push_rows(&tested, &at, first, with, &mut row_sink, steps)?;
         later = others;
         touched = rest;
     }
-    Ok(sheet.rows)
+    Ok(row_sink.rows)
 }

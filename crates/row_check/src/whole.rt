@@ -6,9 +6,9 @@ ghost use Rattle.box_index.specs.Tiles.{IsSoundIndex};
 ghost use Rattle.pair_check.specs.Alone.{AreEnoughAlone, BreaksNothing};
 ghost use Rattle.pair_check.specs.Pairs.{Deciders};
 ghost use Rattle.pair_check.specs.Rows.{AreRows, AreRowsOfItem, AreRowsWhere};
-ghost use Rattle.pair_check.specs.Views.{checked_by, deciders_of, IsWholeView};
-ghost use Rattle.row_check.specs.Tiles.{IsIndexOf, AreRowsOfTile};
-ghost use Rattle.row_check.specs.Walks.{HasMore};
+ghost use Rattle.pair_check.specs.CheckViews.{checked_by, deciders_of, IsWholeView};
+ghost use Rattle.row_check.specs.RowsOfTile.{IsIndexOf, AreRowsOfTile};
+ghost use Rattle.row_check.specs.EntryWalks.{HasAddedRows};
 ghost use Rattle.row_check.specs.Whole.{AreOnceWhere, AreSingles, IsOfTiles, IsOfChanged, ids_of};
 
 use crate::order::put_in_order;
@@ -20,7 +20,7 @@ use std::alloc::{AllocError, Global};
 use std::marker::Brand;
 use std::sync::ledger::{Blank, Ledger};
 
-/// The ids of all items of the board, which rise. Only want of memory refuses it.
+/// The ids of all items of the board, which rise. Only running out of memory refuses it.
 pub fn ids_of(alloc: Global, board: &Board) -> Result<Vec<u32>, AllocError>
     ensures ids { IfOk result (λ ids. ids.items ≡ ids_of board.now) }
     ensures rise { IfOk result (λ ids. IsStrictlyIncreasing ids.items) }
@@ -45,7 +45,9 @@ fn push_tile<L: Ledger>(
     requires view { IsWholeView view.now }
     requires index { IsIndexOf (checked_by view.now) index.now }
     requires changed { IsStrictlyIncreasing changed.now }
-    ensures { OnOk result (HasMore (AreRowsOfTile (checked_by view.now) index.now tile changed.now) rows.old.items rows.new.items) }
+    ensures { OnOk result (HasAddedRows
+        (AreRowsOfTile (checked_by view.now) index.now tile changed.now) rows.old.items
+        rows.new.items) }
 {
     let found = test_tile(alloc, view, index, tile, changed, steps)?;
     rows.extend_from_slice(&found)?;
@@ -66,7 +68,8 @@ fn rows_of_tiles<L: Ledger>(
     requires sound { IsSoundIndex index.now }
     requires tiles { IsStrictlyIncreasing tiles.now }
     requires changed { IsStrictlyIncreasing changed.now }
-    ensures { IfOk result (λ rows. AreOnceWhere (IsOfTiles (checked_by view.now) index.now tiles.now changed.now) rows.items) }
+    ensures { IfOk result (λ rows.
+        AreOnceWhere (IsOfTiles (checked_by view.now) index.now tiles.now changed.now) rows.items) }
 {
     let mut rows = Vec::new(alloc);
     for tile in tiles {
@@ -77,7 +80,8 @@ fn rows_of_tiles<L: Ledger>(
 
 /// Whether the item is known to break nothing.
 fn breaks_nothing(enough: Option<Enough>, item: &Item) -> bool
-    ensures { (d : Deciders) → IfSome enough (AreEnoughAlone d) → result ≡ true → BreaksNothing d item.now }
+    ensures { (d : Deciders) → IfSome enough (AreEnoughAlone d) → result ≡ true
+        → BreaksNothing d item.now }
 {
     match enough {
         Some(enough) => enough.is_had_by(item),
@@ -95,7 +99,8 @@ fn push_single(
 ) -> Result<(), AllocError>
     requires view { IsWholeView view.now }
     requires enough { IfSome enough (AreEnoughAlone (deciders_of view.now)) }
-    ensures rows { OnOk result (HasMore (AreRowsOfItem (checked_by view.now) id) rows.old.items rows.new.items) }
+    ensures rows { OnOk result (HasAddedRows
+        (AreRowsOfItem (checked_by view.now) id) rows.old.items rows.new.items) }
     ensures same { OnErr result (rows.new.items ≡ rows.old.items) }
 {
     match view.board.get(id) {
@@ -111,7 +116,7 @@ fn push_single(
     }
 }
 
-/// Appends the rows of each of these items alone, in order. The ids rise; one that no item has gives none. Only want of memory
+/// Appends the rows of each of these items alone, in order. The ids rise; one that no item has gives none. Only running out of memory
 /// fails it; what was in the list is then followed by the rows of some of the first ids alone.
 pub fn push_singles(
     alloc: Global,
@@ -121,8 +126,11 @@ pub fn push_singles(
 ) -> Result<(), AllocError>
     requires view { IsWholeView view.now }
     requires rise { IsStrictlyIncreasing ids.now }
-    ensures rows { OnOk result (HasMore (AreSingles (checked_by view.now) ids.now) rows.old.items rows.new.items) }
-    ensures first { OnErr result ((count : ℕ) × HasMore (AreSingles (checked_by view.now) (take count ids.now)) rows.old.items rows.new.items) }
+    ensures rows { OnOk result (HasAddedRows
+        (AreSingles (checked_by view.now) ids.now) rows.old.items rows.new.items) }
+    ensures first { OnErr result ((count : ℕ)
+        × HasAddedRows (AreSingles (checked_by view.now)
+        (take count ids.now)) rows.old.items rows.new.items) }
 {
     let enough = enough_alone(view);
     for id in ids {
@@ -131,7 +139,7 @@ pub fn push_singles(
     Ok(())
 }
 
-/// As `rows_of_changed`, with where steps are counted.
+/// The rows of the changed items in these tiles, in order. A ledger of the type `L` counts the steps.
 fn rows_counted<L: Ledger>(
     alloc: Global,
     view: &CheckView,
@@ -148,7 +156,9 @@ fn rows_counted<L: Ledger>(
     requires sound { IsSoundIndex index.now }
     requires tiles { IsStrictlyIncreasing tiles.now }
     requires changed { IsStrictlyIncreasing changed.now }
-    ensures { IfOk result (λ rows. AreRowsWhere (IsOfChanged (checked_by view.now) index.now tiles.now changed.now) rows.items) }
+    ensures { IfOk result (λ rows.
+        AreRowsWhere (IsOfChanged
+        (checked_by view.now) index.now tiles.now changed.now) rows.items) }
 {
     let mut steps: Steps<L> = Steps::new(blank);
     let mut rows = rows_of_tiles(alloc, view, index, tiles, changed, &mut steps)?;
@@ -161,7 +171,7 @@ fn rows_counted<L: Ledger>(
 /// the single items in `changed`; by the first id, then by the second, then by the number of the kind.
 ///
 /// `tiles` and `changed` rise. The index holds the items of the board under their bounds, and reaches as far as anything is
-/// asked for. Only want of memory refuses it.
+/// asked for. Only running out of memory refuses it.
 pub fn rows_of_changed(
     alloc: Global,
     view: &CheckView,
@@ -173,7 +183,9 @@ pub fn rows_of_changed(
     requires index { IsIndexOf (checked_by view.now) index.now }
     requires tiles { IsStrictlyIncreasing tiles.now }
     requires changed { IsStrictlyIncreasing changed.now }
-    ensures { IfOk result (λ rows. AreRowsWhere (IsOfChanged (checked_by view.now) index.now tiles.now changed.now) rows.items) }
+    ensures { IfOk result (λ rows.
+        AreRowsWhere (IsOfChanged
+        (checked_by view.now) index.now tiles.now changed.now) rows.items) }
 {
     // the index says here that it is sound
     let _ = index.near(0);
@@ -183,7 +195,7 @@ pub fn rows_of_changed(
 /// All rows of the board under its classes and rules, by the first id, then by the second, then by the number of the kind.
 ///
 /// The index holds the items of the board under their bounds, and reaches as far as anything is asked for. Two items are
-/// compared in one tile, and only where their bounds, widened so, meet. Only want of memory refuses it.
+/// compared in one tile, and only where their bounds, widened so, meet. Only running out of memory refuses it.
 pub fn rows_of(alloc: Global, view: &CheckView, index: &TileIndex) -> Result<Vec<Row>, AllocError>
     requires view { IsWholeView view.now }
     requires index { IsIndexOf (checked_by view.now) index.now }

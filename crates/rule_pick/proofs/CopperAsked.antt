@@ -5,7 +5,7 @@ use Rattle.std.specs.List.{flat_map}
 use Rattle.std.proofs.lemmas.List.Elements.{All-nil, All-cons, All-head, All-tail}
 use Rattle.cond_lang.specs.Rules.{PlainConstraint, PlainRule}
 use Rattle.rule_pick.specs.declared.asking.Between.TheVariants.{Coppers}
-use Rattle.rule_pick.specs.Copper.{AsksAtMost, EachAsksAtMost}
+use Rattle.rule_pick.specs.CopperDemands.{AsksAtMost, EachAsksAtMost}
 use Rattle.rule_pick.specs.Deciding.{asked_least}
 use Rattle.rule_pick.specs.Reach.{asked_between, distances_between}
 

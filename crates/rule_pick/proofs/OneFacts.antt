@@ -11,7 +11,7 @@ use Rattle.board_items.specs.declared.item.What.{What}
 use Rattle.board_items.specs.declared.item.What.TheVariants as what
 use Rattle.board_items.specs.Boards.{PlainBoard, item_at}
 use Rattle.copper_layers.specs.Layers.{has_layer}
-use Rattle.net_class.specs.Classes.{PlainClasses}
+use Rattle.net_class.specs.NetClasses.{PlainClasses}
 use Rattle.rule_pick.specs.declared.kinds.ItemKind.{ItemKind}
 use Rattle.rule_pick.specs.declared.facts.Facts.{Facts}
 use Rattle.rule_pick.specs.FactsOf.{AreLayersOf, AreNamesOf, MeetsArea, MeetsCourtyard, AreFactsOf, AreFacts}

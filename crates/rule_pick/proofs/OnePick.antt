@@ -3,7 +3,7 @@ use Rattle.std.proofs.Common.{◌≡◌, sym, subst, ◌∙◌, ◌⊎◌, inl, 
 use Rattle.std.specs.Int.{int_max}
 use Rattle.std.specs.List.{slice_get}
 use Rattle.std.proofs.lemmas.Bool.{cases_lt}
-use Rattle.net_class.specs.Classes.{PlainMins}
+use Rattle.net_class.specs.NetClasses.{PlainMins}
 use Rattle.cond_lang.specs.declared.kind.Kind.{Kind}
 use Rattle.cond_lang.specs.Rules.{PlainConstraint, PlainRule}
 use Rattle.rule_pick.specs.declared.facts.Facts.{Facts}

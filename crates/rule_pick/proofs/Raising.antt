@@ -10,7 +10,7 @@ use Rattle.std.proofs.lemmas.List.Elements.{All-nil, All-cons, All-head, All-tai
 use Rattle.int_algebra.proofs.Order.{le_refl, le_trans}
 use Rattle.int_algebra.proofs.Scalars.{clean, cleaned, passed}
 use Rattle.plain_types.specs.Lengths.{IsLength}
-use Rattle.net_class.specs.Classes.{PlainClass, PlainClasses, greatest_of, greatest_clearance}
+use Rattle.net_class.specs.NetClasses.{PlainClass, PlainClasses, greatest_of, greatest_clearance}
 use Rattle.rule_pick.specs.Reach.{clearances_of, IsGreatestOf}
 use Rattle.rule_pick.specs.Raised.{IsRaised, IsRaisedSoFar}
 

@@ -4,13 +4,13 @@ use Rattle.std.specs.Prelude.{◌≡◌, ◌⊎◌, ℕ, ◌<◌, ℤ, pos, ◌=
 use Rattle.std.specs.Int.{int_max}
 use Rattle.std.specs.List.{slice_get}
 use Rattle.std.specs.Ordering.{int_eq}
-use Rattle.net_class.specs.Classes.{PlainMins}
+use Rattle.net_class.specs.NetClasses.{PlainMins}
 use Rattle.cond_lang.specs.declared.kind.Kind.{Kind}
 use Rattle.cond_lang.specs.declared.kind.Kind.TheVariants.{Short, Clearance, HoleClearance, HoleToHole, EdgeClearance, CourtyardClearance, Keepout, TrackWidth, ViaDiameter, HoleSize, AnnularWidth, Disallow as DisallowKind, PhysicalClearance, PhysicalHoleClearance, Assertion}
 use Rattle.cond_lang.specs.declared.rule.RuleLayer.{RuleLayer}
 use Rattle.cond_lang.specs.declared.rule.RuleLayer.TheVariants.{Any, Outer, Inner, One}
 use Rattle.cond_lang.specs.declared.rule.Severity.TheVariants.{Error}
-use Rattle.cond_lang.specs.Kinds.{kind_number, has_own}
+use Rattle.cond_lang.specs.CheckKinds.{kind_number, has_own}
 use Rattle.cond_lang.specs.Rules.{PlainConstraint, PlainRule, no_bans}
 use Rattle.cond_lang.specs.Trees.{CondTree}
 use Rattle.rule_pick.specs.declared.facts.Facts.{Facts}

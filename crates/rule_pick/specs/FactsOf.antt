@@ -10,10 +10,10 @@ use Rattle.board_items.specs.declared.item.What.{What}
 use Rattle.board_items.specs.declared.item.What.TheVariants as what
 use Rattle.board_items.specs.declared.item.Item.{Item}
 use Rattle.board_items.specs.Boards.{PlainBoard, name_of, item_at}
-use Rattle.board_items.specs.Copper.{PartsMeet, SomeMeet, on_layer}
+use Rattle.board_items.specs.CopperPairs.{PartsMeet, SomeMeet, on_layer}
 use Rattle.copper_layers.specs.Layers.{has_layer}
-use Rattle.board_items.specs.Parts.{hole_parts}
-use Rattle.net_class.specs.Classes.{PlainClass, PlainClasses, class_of}
+use Rattle.board_items.specs.ItemParts.{hole_parts}
+use Rattle.net_class.specs.NetClasses.{PlainClass, PlainClasses, class_of}
 use Rattle.rule_pick.specs.declared.kinds.ItemKind.{ItemKind}
 use Rattle.rule_pick.specs.declared.kinds.ItemKind.TheVariants.{Track, Via, Pad, Graphic, Fill, Edge, Area, Body, Note}
 use Rattle.rule_pick.specs.declared.facts.Facts.{Facts}

@@ -8,4 +8,4 @@ pub mod ById
 pub mod AllFacts
 pub mod KeptLengths
 pub mod Raised
-pub mod Copper
+pub mod CopperDemands

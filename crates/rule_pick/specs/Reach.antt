@@ -3,12 +3,12 @@ use Rattle.std.specs.Prelude.{ℕ, ℤ, ◌≤ℤ◌, Bool, true, false, List, [
 use Rattle.std.specs.List.{flat_map}
 use Rattle.board_items.specs.declared.item.Item.{Item}
 use Rattle.board_items.specs.Boards.{PlainBoard}
-use Rattle.net_class.specs.Classes.{PlainMins, PlainClasses}
+use Rattle.net_class.specs.NetClasses.{PlainMins, PlainClasses}
 use Rattle.cond_lang.specs.declared.kind.Kind.{Kind}
 use Rattle.cond_lang.specs.declared.kind.Kind.TheVariants.{Clearance, HoleClearance, HoleToHole, PhysicalClearance, PhysicalHoleClearance}
 use Rattle.cond_lang.specs.declared.kind.Family.{Family}
 use Rattle.cond_lang.specs.declared.kind.Family.TheVariants.{Meets, Keeps, Limits, Forbids}
-use Rattle.cond_lang.specs.Kinds.{family}
+use Rattle.cond_lang.specs.CheckKinds.{family}
 use Rattle.cond_lang.specs.Rules.{PlainConstraint, PlainRule}
 use Rattle.rule_pick.specs.declared.asking.Between.{Between}
 use Rattle.rule_pick.specs.declared.asking.Between.TheVariants.{Items, Coppers}

@@ -1,12 +1,12 @@
 //! How much is asked of two pieces of copper at most.
 
 ghost use Rattle.std.specs.Prelude.{◌≡◌, ◌≤ℤ◌, true, Bool, map};
-ghost use Rattle.net_class.specs.Views.{mins_of};
+ghost use Rattle.net_class.specs.ClassValues.{mins_of};
 ghost use Rattle.cond_lang.specs.declared.kind.Kind.{Kind as PlainKind};
 ghost use Rattle.cond_lang.specs.Rules.{plain_rule};
 ghost use Rattle.rule_pick.specs.Deciding.{minimum};
 ghost use Rattle.rule_pick.specs.Reach.{is_of_copper};
-ghost use Rattle.rule_pick.specs.Copper.{AskAtMost, ItAsksAtMost};
+ghost use Rattle.rule_pick.specs.CopperDemands.{AskAtMost, ItAsksAtMost};
 
 use crate::asking::{Between, raised_by_rules};
 use crate::facts::Facts;

@@ -93,7 +93,7 @@ impl FactsById {
     }
 
     /// No facts, with room for those of all ids below this number.
-    pub fn with_room(alloc: Global, ids: usize) -> Result<FactsById, AllocError>
+    pub fn with_reserved(alloc: Global, ids: usize) -> Result<FactsById, AllocError>
         ensures { IfOk result (λ facts. (id : ℕ) → facts_at facts id ≡ None) }
     {
         Ok(FactsById {
@@ -108,7 +108,7 @@ impl FactsById {
         facts_at(&self.slots, id as usize)
     }
 
-    /// Gives the id these facts, in place of those that it had. Where memory is wanting all ids have the facts that they had.
+    /// Gives the id these facts, in place of those that it had. Where memory runs out all ids have the facts that they had.
     /// Behind the greatest id so far it takes room for all ids between.
     #[inline(always)]
     pub fn insert(&mut self, id: u32, facts: Facts) -> Result<(), AllocError>

@@ -5,7 +5,7 @@ ghost use Rattle.copper_layers.specs.declared.set.LayerSet.{LayerSet};
 ghost use Rattle.board_items.specs.declared.item.Item.{Item};
 ghost use Rattle.board_items.specs.Boards.{PlainBoard};
 ghost use Rattle.copper_layers.specs.Layers.{has_layer};
-ghost use Rattle.net_class.specs.Classes.{PlainClasses, PlainMins};
+ghost use Rattle.net_class.specs.NetClasses.{PlainClasses, PlainMins};
 ghost use Rattle.cond_lang.specs.declared.kind.Kind.{Kind};
 ghost use Rattle.cond_lang.specs.Rules.{PlainRule};
 ghost use Rattle.rule_pick.specs.declared.facts.Facts.{Facts};

@@ -3,7 +3,7 @@
 ghost use Rattle.std.specs.Prelude.{◌≡◌, ◌≤ℤ◌, pos, false, if◌then◌else◌};
 ghost use Rattle.std.specs.Int.{int_max};
 ghost use Rattle.plain_types.specs.Lengths.{IsLength};
-ghost use Rattle.net_class.specs.Views.{mins_of};
+ghost use Rattle.net_class.specs.ClassValues.{mins_of};
 ghost use Rattle.rule_pick.specs.Deciding.{minimum, has_default};
 
 use board_items::Nm;

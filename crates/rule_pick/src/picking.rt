@@ -3,9 +3,9 @@
 ghost use Rattle.std.specs.Prelude.{◌≡◌, ◌≢◌, map};
 ghost use Rattle.std.specs.Option.{option_map, option_copied};
 ghost use Rattle.plain_types.specs.Limits.{AreCounted};
-ghost use Rattle.net_class.specs.Views.{mins_of};
+ghost use Rattle.net_class.specs.ClassValues.{mins_of};
 ghost use Rattle.cond_lang.specs.declared.kind.Family.{Family};
-ghost use Rattle.cond_lang.specs.Kinds.{family};
+ghost use Rattle.cond_lang.specs.CheckKinds.{family};
 ghost use Rattle.cond_lang.specs.Rules.{plain_constraint, plain_rule};
 ghost use Rattle.rule_pick.specs.Deciding.{greater_if, local_if, local_of, default_least, class_clearance_if, claim_holds, asked_least, pick_least, pick_of_rule, IsPick};
 ghost use Rattle.rule_pick.specs.Picks.{pick_of};

@@ -3,8 +3,8 @@
 ghost use Rattle.std.specs.Prelude.{◌≡◌, ◌∷◌, [], map};
 ghost use Rattle.std.specs.Option.{option_map};
 ghost use Rattle.plain_types.specs.Lengths.{IsLength};
-ghost use Rattle.net_class.specs.Classes.{greatest_clearance};
-ghost use Rattle.net_class.specs.Views.{mins_of};
+ghost use Rattle.net_class.specs.NetClasses.{greatest_clearance};
+ghost use Rattle.net_class.specs.ClassValues.{mins_of};
 ghost use Rattle.cond_lang.specs.Rules.{plain_rule};
 ghost use Rattle.rule_pick.specs.Raised.{IsRaised};
 ghost use Rattle.rule_pick.specs.Reach.{least_distances, local_clearances, IsReach};

@@ -3,17 +3,17 @@ use Rattle.std.proofs.Common.{◌≡◌, ℕ, ◌≤◌, ◌+◌, List, [], ◌�
 use Rattle.sexpr_read.specs.declared.place.TextError.{TextError}
 use Rattle.sexpr_read.specs.Tree.{Tree, parts}
 use Rattle.sexpr_read.specs.Spelling.{SpellsAll}
-use Rattle.sexpr_read.specs.Refusals.{refusal_of_all}
-use Rattle.sexpr_read.specs.Places.{PartsStandBetween}
+use Rattle.sexpr_read.specs.TreeRefusals.{refusal_of_all}
+use Rattle.sexpr_read.specs.TreePlaces.{PartsStandBetween}
 use Rattle.rule_text.specs.declared.error.RuleError.{RuleError}
 use Rattle.rule_text.specs.declared.error.RuleError.TheVariants.{Text, Version, Bad}
-use Rattle.rule_text.specs.Short.{AllShort}
-use Rattle.list_read.specs.Answers.{◌>>=◌, check, each_of}
-use Rattle.list_read.specs.Heads.{place, text_of, has_head, has_word_head, behind_head}
-use Rattle.list_read.specs.Texts.{Behind}
-use Rattle.rule_text.specs.Forms.{name_at, clauses}
+use Rattle.rule_text.specs.ShortRuleTrees.{AllShort}
+use Rattle.list_read.specs.FirstRefusals.{◌>>=◌, check, each_of}
+use Rattle.list_read.specs.ListHeads.{place, text_of, has_head, has_word_head, behind_head}
+use Rattle.list_read.specs.TextResults.{IsBehindText}
+use Rattle.rule_text.specs.RuleForms.{name_at, clauses}
 use Rattle.rule_text.specs.RulesOf.{PlainRules, is_asked, is_version, no_rules, rules_of, file_of, rule_in, all_rules}
-use Rattle.rule_text.specs.Walk.{PlainDraft, rule_by, blank, with_clauses, with_rule, with_rules}
+use Rattle.rule_text.specs.RuleWalk.{PlainDraft, rule_by, blank, with_clauses, with_rule, with_rules}
 use Rattle.rule_text.specs.RuleText.{RulesSays}
 use Rattle.rule_text.specs.ListText.{no_form, nothing_more, list_among, list_of, moved, Here, SaysList}
 use Rattle.rule_text.proofs.InOrder.{rules_in_order}
@@ -99,7 +99,7 @@ unmoved by (Err e) rules h = absurd (cc)
 -- ---- texts
 
 module _ (in_order : (text : List ℕ) (t : Tree) → SpellsAll text t → PartsStandBetween text 0 (length text) t) where
-  file_after : (text : List ℕ) (e : Option TextError) (rules : PlainRules) → length text ≤ 33554432 → Behind Text (SpellsAll text) (λ tree told. told ≡ file_of (length text) tree) e (Ok rules) → length rules.rules ≤ 33554432
+  file_after : (text : List ℕ) (e : Option TextError) (rules : PlainRules) → length text ≤ 33554432 → IsBehindText Text (SpellsAll text) (λ tree told. told ≡ file_of (length text) tree) e (Ok rules) → length rules.rules ≤ 33554432
   unfolding file_of
   file_after text (Some e) rules short says = absurd (cc)
   file_after text None rules short says =
@@ -110,7 +110,7 @@ module _ (in_order : (text : List ℕ) (t : Tree) → SpellsAll text t → Parts
   pub few_in_file : (text : List ℕ) (rules : PlainRules) → length text ≤ 33554432 → RulesSays text (Ok rules) → length rules.rules ≤ 33554432
   few_in_file text rules short says = file_after text (refusal_of_all text) rules short says
 
-  list_after : (text : List ℕ) (e : Option TextError) (rules : PlainRules) → length text ≤ 33554432 → Behind Text (SpellsAll text) (λ tree told. told ≡ list_of (length text) tree) e (Ok rules) → length rules.rules ≤ 33554432
+  list_after : (text : List ℕ) (e : Option TextError) (rules : PlainRules) → length text ≤ 33554432 → IsBehindText Text (SpellsAll text) (λ tree told. told ≡ list_of (length text) tree) e (Ok rules) → length rules.rules ≤ 33554432
   list_after text (Some e) rules short says = absurd (cc)
   list_after text None rules short says =
       here_few (length text) says.0 rules (forms_short text says.0 (in_order text says.0 says.1) short) (sym says.2)

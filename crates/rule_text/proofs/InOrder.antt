@@ -10,17 +10,17 @@ use Rattle.cond_lang.specs.declared.rule.RuleLayer.{RuleLayer}
 use Rattle.cond_lang.specs.declared.rule.Severity.{Severity}
 use Rattle.cond_lang.specs.declared.rule.Disallow.{Disallow}
 use Rattle.cond_lang.specs.Trees.{CondTree}
-use Rattle.cond_lang.specs.Kinds.{family, kind_number, is_assertion}
+use Rattle.cond_lang.specs.CheckKinds.{family, kind_number, is_assertion}
 use Rattle.cond_lang.specs.Rules.{PlainRule, PlainConstraint, no_bans}
 use Rattle.rule_text.specs.declared.error.RuleError.{RuleError}
 use Rattle.rule_text.specs.declared.error.RuleError.TheVariants.{Bad}
-use Rattle.list_read.specs.Answers.{◌>>=◌, check, each_of}
-use Rattle.list_read.specs.Heads.{place, text_of, has_head}
-use Rattle.rule_text.specs.Forms.{bad, name_at, atom_at, clauses}
-use Rattle.rule_text.specs.LayersOf.{layer_in}
-use Rattle.rule_text.specs.Limits.{PlainLimits, kind_named, cond_in, with_limits, unlimited, with_bans}
+use Rattle.list_read.specs.FirstRefusals.{◌>>=◌, check, each_of}
+use Rattle.list_read.specs.ListHeads.{place, text_of, has_head}
+use Rattle.rule_text.specs.RuleForms.{bad, name_at, atom_at, clauses}
+use Rattle.rule_text.specs.RuleLayers.{layer_in}
+use Rattle.rule_text.specs.RuleLimits.{PlainLimits, kind_named, cond_in, with_limits, unlimited, with_bans}
 use Rattle.rule_text.specs.RulesOf.{PlainRules, PlainNote, severity_in, limiting, banned, claim_among, claimed, constraint_by, constraint_in, Sort, of_layer, of_severity, of_condition, of_kind, of_other, sort_by, sort_in, one_sort, firsts, Said, says_layer, says_severity, says_condition, says_constraint, says_other, said_by, said_in, is_asked, is_heard, counting, Read, with_said, other_in, plain, rule_in, note, notes_from, all_rules, no_rules}
-use Rattle.rule_text.specs.Walk.{PlainDraft, has_kind, with_layer, with_severity, with_cond, with_kind, with_constraint, with_clause, with_clauses, blank, rule_by, with_rule, with_rules}
+use Rattle.rule_text.specs.RuleWalk.{PlainDraft, has_kind, with_layer, with_severity, with_cond, with_kind, with_constraint, with_clause, with_clauses, blank, rule_by, with_rule, with_rules}
 
 -- ---- tests
 

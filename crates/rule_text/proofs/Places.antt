@@ -7,7 +7,7 @@ use Rattle.exact_dec.specs.Computed.{with_unit_answer}
 use Rattle.cond_lang.specs.declared.kind.Kind.{Kind}
 use Rattle.cond_lang.specs.declared.kind.Family.{Family}
 use Rattle.cond_lang.specs.declared.kind.Family.TheVariants.{Meets, Keeps, Limits, Forbids}
-use Rattle.cond_lang.specs.Kinds.{family, is_assertion}
+use Rattle.cond_lang.specs.CheckKinds.{family, is_assertion}
 use Rattle.cond_lang.specs.declared.rule.Disallow.{Disallow}
 use Rattle.cond_lang.specs.Found.{Found, read, fault}
 use Rattle.cond_lang.specs.Conditions.{reading}
@@ -15,17 +15,17 @@ use Rattle.cond_lang.specs.Rules.{no_bans}
 use Rattle.cond_lang.specs.Trees.{CondTree}
 use Rattle.rule_text.specs.declared.error.RuleError.{RuleError}
 use Rattle.rule_text.specs.declared.error.RuleError.TheVariants.{Version, Bad, BadNumber}
-use Rattle.list_read.specs.Answers.{◌>>=◌, needed, check}
-use Rattle.list_read.specs.Heads.{place, text_of, is_text, has_head, has_word_head, behind_head}
-use Rattle.rule_text.specs.Forms.{bad, as_atom, second_among, name_at, single_among, atom_at, clauses}
-use Rattle.rule_text.specs.LayersOf.{layer_named, layer_in}
+use Rattle.list_read.specs.FirstRefusals.{◌>>=◌, needed, check}
+use Rattle.list_read.specs.ListHeads.{place, text_of, is_text, has_head, has_word_head, behind_head}
+use Rattle.rule_text.specs.RuleForms.{bad, as_atom, second_among, name_at, single_among, atom_at, clauses}
+use Rattle.rule_text.specs.RuleLayers.{layer_named, layer_in}
 use Rattle.plain_types.specs.Lengths.{is_length}
-use Rattle.rule_text.specs.Limits.{kind_named, length_from, length_in, PlainLimits, with_least, with_wished, with_most, with_limit, with_limits, unlimited, with_ban, with_bans, cond_from, cond_in}
+use Rattle.rule_text.specs.RuleLimits.{kind_named, length_from, length_in, PlainLimits, with_least, with_wished, with_most, with_limit, with_limits, unlimited, with_ban, with_bans, cond_from, cond_in}
 use Rattle.rule_text.specs.RulesOf.{PlainRules, severity_named, severity_in, limited, banned, claim_among, claimed, constraint_by, constraint_in, is_asked, is_version, no_rules, rules_of}
-use Rattle.rule_text.specs.Walk.{PlainDraft, has_kind, with_layer, with_severity, with_cond, with_kind, with_constraint, with_clause, with_clauses, blank, with_rule, with_rules}
+use Rattle.rule_text.specs.RuleWalk.{PlainDraft, has_kind, with_layer, with_severity, with_cond, with_kind, with_constraint, with_clause, with_clauses, blank, with_rule, with_rules}
 use Rattle.rule_text.specs.ListText.{no_form, nothing_more, list_among, list_of}
-use Rattle.rule_text.specs.Short.{AllShort, IsShort}
-use Rattle.rule_text.specs.Near.{IsNear, NearIfErr}
+use Rattle.rule_text.specs.ShortRuleTrees.{AllShort, IsShort}
+use Rattle.rule_text.specs.RuleRefusalPlaces.{IsPlaceInText, NearIfErr}
 use Rattle.rule_text.proofs.InOrder.{rules_in_order}
 use Rattle.rule_text.proofs.Shortness.{head_short, tail_short, parts_short, behind_head_short, clauses_short, atom_short, claim_short}
 
@@ -39,11 +39,11 @@ near_if : {A : Type 0} → (b : Bool) (x y : Result A RuleError) → NearIfErr x
 near_if true x y h k = h
 near_if false x y h k = k
 
-near_needed : {A : Type 0} → (e : RuleError) (o : Option A) → IsNear e → NearIfErr (needed e o)
+near_needed : {A : Type 0} → (e : RuleError) (o : Option A) → IsPlaceInText e → NearIfErr (needed e o)
 near_needed e None h = h
 near_needed e (Some x) h = tt
 
-near_check : (e : RuleError) (b : Bool) → IsNear e → NearIfErr (check e b)
+near_check : (e : RuleError) (b : Bool) → IsPlaceInText e → NearIfErr (check e b)
 near_check e true h = tt
 near_check e false h = h
 
@@ -94,7 +94,7 @@ near_in_atom t f h k = near_then (atom_at t) f (near_atom t h) (λ a e. k a (ato
 
 -- ---- constraints
 
-near_length_from : (e : RuleError) (r : Result ℤ DecError) → IsNear e → NearIfErr (length_from e r)
+near_length_from : (e : RuleError) (r : Result ℤ DecError) → IsPlaceInText e → NearIfErr (length_from e r)
 near_length_from e (Ok n) h = near_if (is_length n) (Ok n) (Err e) tt h
 near_length_from e (Err _) h = h
 
@@ -224,7 +224,7 @@ unfolding with_rules
 near_rules r [] h = tt
 near_rules r (t ∷ ts) h = near_then (with_rule r t) _ (near_rule r t h.0) (λ m e. near_rules m ts h.1)
 
-pub near_rules_of : (e : RuleError) (ts : List Tree) → IsNear e → AllShort ts → NearIfErr (rules_of e ts)
+pub near_rules_of : (e : RuleError) (ts : List Tree) → IsPlaceInText e → AllShort ts → NearIfErr (rules_of e ts)
 unfolding rules_of
 near_rules_of e [] n h = n
 near_rules_of e (t ∷ ts) n h =
@@ -232,7 +232,7 @@ near_rules_of e (t ∷ ts) n h =
 
 -- ---- the list in another text
 
-near_no_form : (size : ℕ) (ts : List Tree) → size ≤ 33554432 → AllShort ts → IsNear (no_form size ts)
+near_no_form : (size : ℕ) (ts : List Tree) → size ≤ 33554432 → AllShort ts → IsPlaceInText (no_form size ts)
 near_no_form size [] n h = n
 near_no_form size (t ∷ ts) n h = near_place t h.0
 
@@ -251,5 +251,5 @@ pub near_list : (size : ℕ) (root : Tree) → size ≤ 33554432 → AllShort (p
 unfolding list_of
 near_list size root n h = near_among size (parts root) n h
 
-pub near_answer : (size : ℕ) (root : Tree) (e : RuleError) → list_of size root ≡ Err e → size ≤ 33554432 → AllShort (parts root) → IsNear e
+pub near_answer : (size : ℕ) (root : Tree) (e : RuleError) → list_of size root ≡ Err e → size ≤ 33554432 → AllShort (parts root) → IsPlaceInText e
 near_answer size root e is n h = subst NearIfErr is (near_list size root n h)

@@ -3,12 +3,12 @@ use Rattle.std.proofs.Common.{◌≡◌, ◌≤◌, ◌+◌, ◌-◌, ◌==◌, 
 use Rattle.std.specs.Prelude.{Ok, slice_range}
 use Rattle.std.proofs.lemmas.List.{length-take, length-drop}
 use Rattle.sexpr_read.specs.Tree.{Forest, none, atom, list, Tree, leaf, branch, trees, parts, is_list, unescaped}
-use Rattle.sexpr_read.specs.Places.{IsSlice, StandBetween, PartsStandBetween}
-use Rattle.list_read.specs.Answers.{◌>>=◌}
-use Rattle.list_read.specs.Heads.{text_of, behind_one, behind_head}
-use Rattle.rule_text.specs.Forms.{single_among, as_atom, atom_at, behind_two, clauses}
+use Rattle.sexpr_read.specs.TreePlaces.{IsSlice, StandBetween, PartsStandBetween}
+use Rattle.list_read.specs.FirstRefusals.{◌>>=◌}
+use Rattle.list_read.specs.ListHeads.{text_of, behind_one, behind_head}
+use Rattle.rule_text.specs.RuleForms.{single_among, as_atom, atom_at, behind_two, clauses}
 use Rattle.rule_text.specs.RulesOf.{claim_among}
-use Rattle.rule_text.specs.Short.{AreShort, AllShort, IsShort}
+use Rattle.rule_text.specs.ShortRuleTrees.{AreShort, AllShort, IsShort}
 
 -- ---- parts of short trees
 

@@ -6,10 +6,10 @@ use Rattle.sexpr_read.specs.declared.place.TextError.TheVariants.{NotUtf8, Close
 use Rattle.sexpr_read.specs.Tree.{Tree, parts}
 use Rattle.rule_text.specs.declared.error.RuleError.{RuleError}
 use Rattle.rule_text.specs.declared.error.RuleError.TheVariants.{Text, Version, Bad, Cond, BadNumber, OutOfMemory}
-use Rattle.list_read.specs.Answers.{◌>>=◌, check}
-use Rattle.list_read.specs.Heads.{place, has_word_head, behind_head}
-use Rattle.list_read.specs.Texts.{OfForms}
-use Rattle.rule_text.specs.Forms.{bad}
+use Rattle.list_read.specs.FirstRefusals.{◌>>=◌, check}
+use Rattle.list_read.specs.ListHeads.{place, has_word_head, behind_head}
+use Rattle.list_read.specs.TextResults.{OfForms}
+use Rattle.rule_text.specs.RuleForms.{bad}
 use Rattle.rule_text.specs.RulesOf.{PlainRules, rules_of}
 
 -- the refusal where the list has no form: what stands behind the list comes before the end of the text

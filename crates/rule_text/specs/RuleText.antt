@@ -1,6 +1,6 @@
 -- What the text of a rule file says: the rules of its tree, or why there are none.
 use Rattle.std.specs.Prelude.{◌≡◌, ℕ, List, length, Result}
-use Rattle.list_read.specs.Texts.{OfForms}
+use Rattle.list_read.specs.TextResults.{OfForms}
 use Rattle.rule_text.specs.declared.error.RuleError.{RuleError}
 use Rattle.rule_text.specs.declared.error.RuleError.TheVariants.{Text}
 use Rattle.rule_text.specs.RulesOf.{PlainRules, file_of}

@@ -11,16 +11,16 @@ use Rattle.cond_lang.specs.declared.rule.RuleLayer.{RuleLayer}
 use Rattle.cond_lang.specs.declared.rule.RuleLayer.TheVariants.{Any}
 use Rattle.cond_lang.specs.declared.rule.Severity.{Severity}
 use Rattle.cond_lang.specs.declared.rule.Severity.TheVariants.{Error, Warning, Ignore, Exclusion}
-use Rattle.cond_lang.specs.Kinds.{family, kind_number, is_assertion}
+use Rattle.cond_lang.specs.CheckKinds.{family, kind_number, is_assertion}
 use Rattle.cond_lang.specs.Rules.{PlainRule, PlainConstraint, no_bans}
 use Rattle.cond_lang.specs.Trees.{CondTree}
 use Rattle.rule_text.specs.declared.error.RuleError.{RuleError}
 use Rattle.rule_text.specs.declared.error.RuleError.TheVariants.{Version, Bad}
-use Rattle.list_read.specs.Answers.{◌>>=◌, needed, check, each_of}
-use Rattle.list_read.specs.Heads.{place, text_of, is_text, has_head}
-use Rattle.rule_text.specs.Forms.{bad, name_at, atom_at, clauses}
-use Rattle.rule_text.specs.LayersOf.{layer_in}
-use Rattle.rule_text.specs.Limits.{kind_named, PlainLimits, with_limits, unlimited, with_bans, cond_in}
+use Rattle.list_read.specs.FirstRefusals.{◌>>=◌, needed, check, each_of}
+use Rattle.list_read.specs.ListHeads.{place, text_of, is_text, has_head}
+use Rattle.rule_text.specs.RuleForms.{bad, name_at, atom_at, clauses}
+use Rattle.rule_text.specs.RuleLayers.{layer_in}
+use Rattle.rule_text.specs.RuleLimits.{kind_named, PlainLimits, with_limits, unlimited, with_bans, cond_in}
 
 -- a constraint that no rule may have: the number of its rule, from 0, and its name
 pub record PlainNote : Type 0 where

@@ -1,10 +1,10 @@
 //! What a constraint bans, word by word.
 
 ghost use Rattle.std.specs.Prelude.{◌≡◌};
-ghost use Rattle.sexpr_read.specs.Views.{tree_of};
+ghost use Rattle.sexpr_read.specs.TreeViews.{tree_of};
 ghost use Rattle.cond_lang.specs.Rules.{no_bans};
-ghost use Rattle.rule_text.specs.Forms.{clauses};
-ghost use Rattle.rule_text.specs.Limits.{with_ban, with_bans};
+ghost use Rattle.rule_text.specs.RuleForms.{clauses};
+ghost use Rattle.rule_text.specs.RuleLimits.{with_ban, with_bans};
 
 use crate::error::RuleError;
 use crate::forms::{bad, clauses};
@@ -12,7 +12,7 @@ use cond_lang::Disallow;
 use sexpr_read::Node;
 
 /// What a word bans beside.
-#[tactic(auto, unfolding(crate::specs::Limits::with_ban))]
+#[tactic(auto, unfolding(crate::specs::RuleLimits::with_ban))]
 fn with_ban(bans: Disallow, word: Node<'_, '_>) -> Result<Disallow, RuleError>
     ensures { result ≡ with_ban bans (tree_of word.entry) }
 {
@@ -44,7 +44,7 @@ fn with_ban(bans: Disallow, word: Node<'_, '_>) -> Result<Disallow, RuleError>
 }
 
 /// What the words of `(constraint disallow ..)` ban; without words nothing.
-#[tactic(auto, unfolding(crate::specs::Limits::with_bans))]
+#[tactic(auto, unfolding(crate::specs::RuleLimits::with_bans))]
 pub(crate) fn bans_in(clause: Node<'_, '_>) -> Result<Disallow, RuleError>
     ensures { result ≡ with_bans no_bans (clauses (tree_of clause.entry)) }
 {

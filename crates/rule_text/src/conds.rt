@@ -2,15 +2,15 @@
 
 ghost use Rattle.std.specs.Prelude.{◌≡◌};
 ghost use Rattle.plain_types.specs.Limits.{IsReadable};
-ghost use Rattle.sexpr_read.specs.Views.{tree_of};
+ghost use Rattle.sexpr_read.specs.TreeViews.{tree_of};
 ghost use Rattle.cond_lang.specs.Conditions.{reading};
 ghost use Rattle.cond_lang.specs.Trees.{cond_tree_of};
-ghost use Rattle.rule_text.specs.Forms.{clauses};
-ghost use Rattle.rule_text.specs.Limits.{cond_from, cond_in};
+ghost use Rattle.rule_text.specs.RuleForms.{clauses};
+ghost use Rattle.rule_text.specs.RuleLimits.{cond_from, cond_in};
 ghost use Rattle.rule_text.specs.RulesOf.{claim_among};
-ghost use Rattle.rule_text.specs.Short.{IsShort};
-ghost use Rattle.list_read.specs.Nodes.{tree_in};
-ghost use Rattle.rule_text.specs.Views.{Gives};
+ghost use Rattle.rule_text.specs.ShortRuleTrees.{IsShort};
+ghost use Rattle.list_read.specs.FoundNodes.{tree_in};
+ghost use Rattle.rule_text.specs.RuleValues.{Gives};
 
 use crate::error::RuleError;
 use crate::forms::{as_atom, bad, clauses};
@@ -32,7 +32,7 @@ fn parsed(alloc: Global, at: u32, text: &[u8]) -> Result<Cond, RuleError>
 }
 
 /// The condition that an atom stands for.
-#[tactic(auto, using(crate::proofs::Shortness::short_text), unfolding(crate::specs::Limits::cond_in))]
+#[tactic(auto, using(crate::proofs::Shortness::short_text), unfolding(crate::specs::RuleLimits::cond_in))]
 pub(crate) fn cond_in(alloc: Global, atom: Node<'_, '_>) -> Result<Cond, RuleError>
     requires { IsShort (tree_of atom) }
     ensures { Gives cond_tree_of result (cond_in (tree_of atom.entry)) }
@@ -44,7 +44,7 @@ pub(crate) fn cond_in(alloc: Global, atom: Node<'_, '_>) -> Result<Cond, RuleErr
 }
 
 /// The condition that an atom with escapes stands for, by what its escapes stand for.
-#[tactic(auto, using(crate::proofs::Shortness::short_text), unfolding(crate::specs::Limits::cond_in))]
+#[tactic(auto, using(crate::proofs::Shortness::short_text), unfolding(crate::specs::RuleLimits::cond_in))]
 fn cond_decoded(alloc: Global, atom: Node<'_, '_>) -> Result<Cond, RuleError>
     requires { IsShort (tree_of atom) }
     ensures { Gives cond_tree_of result (cond_in (tree_of atom.entry)) }

@@ -1,15 +1,15 @@
 //! The constraints of a rule, each of one kind, and whether the condition of their rule is asked.
 
 ghost use Rattle.std.specs.Prelude.{◌≡◌, false, true, map};
-ghost use Rattle.sexpr_read.specs.Views.{tree_of};
-ghost use Rattle.cond_lang.specs.Kinds.{is_assertion};
+ghost use Rattle.sexpr_read.specs.TreeViews.{tree_of};
+ghost use Rattle.cond_lang.specs.CheckKinds.{is_assertion};
 ghost use Rattle.cond_lang.specs.Rules.{plain_constraint};
-ghost use Rattle.rule_text.specs.Limits.{kind_named};
+ghost use Rattle.rule_text.specs.RuleLimits.{kind_named};
 ghost use Rattle.rule_text.specs.RulesOf.{limited, banned, claimed, forbidding, constraint_in, is_other, is_constraint, is_asked};
-ghost use Rattle.rule_text.specs.Walk.{has_kind};
-ghost use Rattle.rule_text.specs.Forms.{clauses};
-ghost use Rattle.rule_text.specs.Short.{IsShort};
-ghost use Rattle.rule_text.specs.Views.{Gives};
+ghost use Rattle.rule_text.specs.RuleWalk.{has_kind};
+ghost use Rattle.rule_text.specs.RuleForms.{clauses};
+ghost use Rattle.rule_text.specs.ShortRuleTrees.{IsShort};
+ghost use Rattle.rule_text.specs.RuleValues.{Gives};
 
 use crate::bans::bans_in;
 use crate::conds::{claim_at, cond_in};
@@ -39,7 +39,7 @@ const CONSTRAINED: [Kind; 13] = [
 ];
 
 /// The kind that an atom names, if a constraint may name it.
-#[tactic(auto, unfolding(crate::specs::Limits::kind_named))]
+#[tactic(auto, unfolding(crate::specs::RuleLimits::kind_named))]
 pub(crate) fn kind_named(atom: Node<'_, '_>) -> Option<Kind>
     ensures { result ≡ kind_named (tree_of atom.entry) }
 {

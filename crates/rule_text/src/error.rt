@@ -26,14 +26,14 @@ pub enum RuleError {
 }
 
 impl HasReason for RuleError {
-    ghost use Rattle.rule_text.specs.Reasons.{rules_reason};
+    ghost use Rattle.rule_text.specs.RuleReasons.{rules_reason};
 
     ghost reason_of = { rules_reason };
 
     ghost depth = { 2 };
 
     /// What it is called, its number and its byte of the text: for a condition that where its text begins, and its inner
-    /// place is counted in what that text stands for. Want of memory has no number, which is written 0, and no place.
+    /// place is counted in what that text stands for. Running out of memory has no number, which is written 0, and no place.
     fn reason(&self) -> Reason {
         match self {
             RuleError::Text(error) => error.reason().behind("Text", 1),
@@ -71,7 +71,7 @@ impl<T: Drop> From<AllocFailed<T>> for RuleError {
 impl fmt::Display for RuleError {
     ghost use Rattle.std.specs.Prelude.{Some};
     ghost use Rattle.plain_types.specs.Reasons.{written};
-    ghost use Rattle.rule_text.specs.Reasons.{rules_reason};
+    ghost use Rattle.rule_text.specs.RuleReasons.{rules_reason};
 
     ghost output = { λ e. Some (written (rules_reason e)) };
 

@@ -1,10 +1,10 @@
 //! The parts of a list behind its head.
 
 ghost use Rattle.std.specs.Prelude.{◌≡◌};
-ghost use Rattle.sexpr_read.specs.Views.{tree_of, trees_left};
-ghost use Rattle.list_read.specs.Heads.{place};
-ghost use Rattle.list_read.specs.Nodes.{tree_in};
-ghost use Rattle.rule_text.specs.Forms.{as_atom, name_at, atom_at, clauses};
+ghost use Rattle.sexpr_read.specs.TreeViews.{tree_of, trees_left};
+ghost use Rattle.list_read.specs.ListHeads.{place};
+ghost use Rattle.list_read.specs.FoundNodes.{tree_in};
+ghost use Rattle.rule_text.specs.RuleForms.{as_atom, name_at, atom_at, clauses};
 
 use crate::error::RuleError;
 use list_read::place;
@@ -29,7 +29,7 @@ pub(crate) fn as_atom<'d, 't>(node: Node<'d, 't>) -> Result<Node<'d, 't>, RuleEr
 }
 
 /// The name behind the head.
-#[tactic(auto, unfolding(crate::specs::Forms::name_at))]
+#[tactic(auto, unfolding(crate::specs::RuleForms::name_at))]
 pub(crate) fn name_at<'d, 't>(list: Node<'d, 't>) -> Result<Node<'d, 't>, RuleError>
     ensures { tree_in result ≡ name_at (tree_of list.entry) }
 {
@@ -42,7 +42,7 @@ pub(crate) fn name_at<'d, 't>(list: Node<'d, 't>) -> Result<Node<'d, 't>, RuleEr
 }
 
 /// The one part behind the head.
-#[tactic(auto, unfolding(crate::specs::Forms::atom_at))]
+#[tactic(auto, unfolding(crate::specs::RuleForms::atom_at))]
 pub(crate) fn atom_at<'d, 't>(list: Node<'d, 't>) -> Result<Node<'d, 't>, RuleError>
     ensures { tree_in result ≡ atom_at (tree_of list.entry) }
 {
@@ -58,7 +58,7 @@ pub(crate) fn atom_at<'d, 't>(list: Node<'d, 't>) -> Result<Node<'d, 't>, RuleEr
 }
 
 /// What stands behind the head and the name.
-#[tactic(auto, unfolding(crate::specs::Forms::clauses))]
+#[tactic(auto, unfolding(crate::specs::RuleForms::clauses))]
 pub(crate) fn clauses<'d, 't>(list: Node<'d, 't>) -> Children<'d, 't>
     ensures { trees_left result ≡ clauses (tree_of list.entry) }
 {

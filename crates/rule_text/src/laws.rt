@@ -10,7 +10,8 @@ use sexpr_read::laws::one_tree;
 
 /// No text says two things.
 pub fn one_reading()
-    ensures { (text : List ℕ) (a b : Result PlainRules RuleError) → RulesSays text a → RulesSays text b
+    ensures { (text : List ℕ) (a b : Result PlainRules RuleError) → RulesSays text a
+        → RulesSays text b
         → a ≡ b }
 {
     one_tree();
@@ -18,7 +19,8 @@ pub fn one_reading()
 
 /// No list of rules says two things, by the places of its own text.
 fn one_reading_here()
-    ensures { (text : List ℕ) (a b : Result PlainRules RuleError) → Here text a → Here text b → a ≡ b }
+    ensures { (text : List ℕ) (a b : Result PlainRules RuleError) → Here text a → Here text b
+        → a ≡ b }
 {
     one_tree();
 }

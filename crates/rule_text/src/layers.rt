@@ -1,8 +1,8 @@
 //! The layers that a rule acts on, by their names.
 
 ghost use Rattle.std.specs.Prelude.{◌≡◌};
-ghost use Rattle.sexpr_read.specs.Views.{tree_of};
-ghost use Rattle.rule_text.specs.LayersOf.{layer_number, layer_named, layer_in};
+ghost use Rattle.sexpr_read.specs.TreeViews.{tree_of};
+ghost use Rattle.rule_text.specs.RuleLayers.{layer_number, layer_named, layer_in};
 
 use crate::error::RuleError;
 use crate::forms::{atom_at, bad};
@@ -11,7 +11,7 @@ use copper_layers::layer_name;
 use sexpr_read::Node;
 
 /// The copper layer that an atom names.
-#[tactic(auto, unfolding(crate::specs::LayersOf::layer_number))]
+#[tactic(auto, unfolding(crate::specs::RuleLayers::layer_number))]
 fn seek_layer(atom: Node<'_, '_>) -> Option<u32>
     ensures { result ≡ layer_number (tree_of atom.entry) }
 {
@@ -24,7 +24,7 @@ fn seek_layer(atom: Node<'_, '_>) -> Option<u32>
 }
 
 /// The layers that a word stands for.
-#[tactic(auto, unfolding(crate::specs::LayersOf::layer_named))]
+#[tactic(auto, unfolding(crate::specs::RuleLayers::layer_named))]
 fn layer_named(atom: Node<'_, '_>) -> Option<RuleLayer>
     ensures { result ≡ layer_named (tree_of atom.entry) }
 {
@@ -39,7 +39,7 @@ fn layer_named(atom: Node<'_, '_>) -> Option<RuleLayer>
 }
 
 /// The layers of `(layer WORD)`.
-#[tactic(auto, unfolding(crate::specs::LayersOf::layer_in))]
+#[tactic(auto, unfolding(crate::specs::RuleLayers::layer_in))]
 pub(crate) fn layer_in(clause: Node<'_, '_>) -> Result<RuleLayer, RuleError>
     ensures { result ≡ layer_in (tree_of clause.entry) }
 {

@@ -2,11 +2,11 @@
 
 ghost use Rattle.std.specs.Prelude.{◌≡◌};
 ghost use Rattle.plain_types.specs.Lengths.{IsLengthIfSome};
-ghost use Rattle.sexpr_read.specs.Views.{tree_of};
-ghost use Rattle.list_read.specs.Heads.{place};
-ghost use Rattle.rule_text.specs.Forms.{clauses};
-ghost use Rattle.rule_text.specs.Limits.{length_in, with_least, with_wished, with_most, with_limit, with_limits, unlimited};
-ghost use Rattle.rule_text.specs.Views.{nm_in, nm_if, plain_limits, Gives};
+ghost use Rattle.sexpr_read.specs.TreeViews.{tree_of};
+ghost use Rattle.list_read.specs.ListHeads.{place};
+ghost use Rattle.rule_text.specs.RuleForms.{clauses};
+ghost use Rattle.rule_text.specs.RuleLimits.{length_in, with_least, with_wished, with_most, with_limit, with_limits, unlimited};
+ghost use Rattle.rule_text.specs.RuleValues.{nm_in, nm_if, plain_limits, Gives};
 
 use crate::error::RuleError;
 use crate::forms::{atom_at, bad, clauses};
@@ -24,7 +24,7 @@ fn bad_number(atom: Node<'_, '_>) -> RuleError
 }
 
 /// A length with its unit, from 0 to 500 mm.
-#[tactic(auto, unfolding(crate::specs::Limits::length_in))]
+#[tactic(auto, unfolding(crate::specs::RuleLimits::length_in))]
 fn length_in(atom: Node<'_, '_>) -> Result<Length, RuleError>
     ensures { nm_in result ≡ length_in (tree_of atom.entry) }
 {
@@ -48,7 +48,7 @@ pub(crate) fn nm_of(length: Option<Length>) -> Option<Nm>
     }
 }
 
-#[tactic(auto, unfolding(crate::specs::Limits::with_least))]
+#[tactic(auto, unfolding(crate::specs::RuleLimits::with_least))]
 fn with_least(limits: Limits, part: Node<'_, '_>) -> Result<Limits, RuleError>
     ensures { Gives plain_limits result (with_least (plain_limits limits) (tree_of part.entry)) }
 {
@@ -63,7 +63,7 @@ fn with_least(limits: Limits, part: Node<'_, '_>) -> Result<Limits, RuleError>
     })
 }
 
-#[tactic(auto, unfolding(crate::specs::Limits::with_wished))]
+#[tactic(auto, unfolding(crate::specs::RuleLimits::with_wished))]
 fn with_wished(limits: Limits, part: Node<'_, '_>) -> Result<Limits, RuleError>
     ensures { Gives plain_limits result (with_wished (plain_limits limits) (tree_of part.entry)) }
 {
@@ -78,7 +78,7 @@ fn with_wished(limits: Limits, part: Node<'_, '_>) -> Result<Limits, RuleError>
     })
 }
 
-#[tactic(auto, unfolding(crate::specs::Limits::with_most))]
+#[tactic(auto, unfolding(crate::specs::RuleLimits::with_most))]
 fn with_most(limits: Limits, part: Node<'_, '_>) -> Result<Limits, RuleError>
     ensures { Gives plain_limits result (with_most (plain_limits limits) (tree_of part.entry)) }
 {
@@ -94,7 +94,7 @@ fn with_most(limits: Limits, part: Node<'_, '_>) -> Result<Limits, RuleError>
 }
 
 /// One of `(min V)`, `(opt V)` and `(max V)`. What stands between least and most has no effect.
-#[tactic(auto, unfolding(crate::specs::Limits::with_limit))]
+#[tactic(auto, unfolding(crate::specs::RuleLimits::with_limit))]
 fn with_limit(limits: Limits, part: Node<'_, '_>) -> Result<Limits, RuleError>
     ensures { Gives plain_limits result (with_limit (plain_limits limits) (tree_of part.entry)) }
 {
@@ -110,7 +110,7 @@ fn with_limit(limits: Limits, part: Node<'_, '_>) -> Result<Limits, RuleError>
 }
 
 /// The lengths of `(constraint NAME ..)`.
-#[tactic(auto, unfolding(crate::specs::Limits::with_limits))]
+#[tactic(auto, unfolding(crate::specs::RuleLimits::with_limits))]
 pub(crate) fn limits_in(clause: Node<'_, '_>) -> Result<Limits, RuleError>
     ensures { Gives plain_limits result (with_limits unlimited (clauses (tree_of clause.entry))) }
 {

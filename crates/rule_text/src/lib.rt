@@ -8,10 +8,10 @@ ghost use Rattle.std.specs.Prelude.{◌≡◌, ◌⊎◌, IfErr, MatchResult, Re
 ghost use Rattle.plain_types.specs.Limits.{IsInText, IsReadable};
 ghost use Rattle.rule_text.specs.declared.error.RuleError.{RuleError};
 ghost use Rattle.rule_text.specs.ListText.{Here, SaysList};
-ghost use Rattle.rule_text.specs.Near.{IsNear};
+ghost use Rattle.rule_text.specs.RuleRefusalPlaces.{IsPlaceInText};
 ghost use Rattle.rule_text.specs.RulesOf.{PlainRules};
 ghost use Rattle.rule_text.specs.RuleText.{RulesSays};
-ghost use Rattle.rule_text.specs.Views.{plain_rules};
+ghost use Rattle.rule_text.specs.RuleValues.{plain_rules};
 
 mod bans;
 mod conds;
@@ -41,7 +41,7 @@ use sexpr_read::{TextError, parse_all};
 use std::alloc::Global;
 
 /// The rules of the text of a rule file, of at most 33,554,432 bytes, or the first reason why there are none, with its
-/// place. The reasons are those of [`RuleError`], exactly where `specs/RuleText` has them; want of memory alone is free.
+/// place. The reasons are those of [`RuleError`], exactly where `specs/RuleText` has them; running out of memory alone is free.
 #[tactic(auto, using(crate::proofs::Shortness::forms_short, crate::proofs::Shortness::forms_few), unfolding(crate::specs::RulesOf::file_of))]
 pub fn read_rules(alloc: Global, text: &[u8]) -> Result<Rules, RuleError>
     requires { IsReadable text.now }
@@ -96,7 +96,7 @@ fn list_here(alloc: Global, text: &[u8]) -> Result<Rules, RuleError>
     ensures says { MatchResult result
         (λ rules. Here text.now (Ok (plain_rules rules)))
         (λ e. (e ≡ RuleError.OutOfMemory) ⊎ Here text.now (Err e)) }
-    ensures near { IfErr result IsNear }
+    ensures near { IfErr result IsPlaceInText }
 {
     spans_in_order();
     match parse_all(alloc, text) {

@@ -3,12 +3,12 @@
 ghost use Rattle.std.specs.Prelude.{◌≡◌};
 ghost use Rattle.plain_types.specs.Limits.{IsInText};
 ghost use Rattle.sexpr_read.specs.Tree.{parts};
-ghost use Rattle.sexpr_read.specs.Views.{tree_of};
-ghost use Rattle.list_read.specs.Near.{IsNearText};
+ghost use Rattle.sexpr_read.specs.TreeViews.{tree_of};
+ghost use Rattle.list_read.specs.RefusalPlaces.{IsNearText};
 ghost use Rattle.rule_text.specs.ListText.{list_of, moved_text, moved_error};
-ghost use Rattle.rule_text.specs.Near.{IsNear};
-ghost use Rattle.rule_text.specs.Short.{AllShort};
-ghost use Rattle.rule_text.specs.Views.{plain_rules, Gives};
+ghost use Rattle.rule_text.specs.RuleRefusalPlaces.{IsPlaceInText};
+ghost use Rattle.rule_text.specs.ShortRuleTrees.{AllShort};
+ghost use Rattle.rule_text.specs.RuleValues.{plain_rules, Gives};
 
 use crate::error::RuleError;
 use crate::forms::bad;
@@ -59,7 +59,7 @@ fn moved_text(by: u32, error: TextError) -> TextError
 /// The refusal, by the places of the text in which the list begins at `by`.
 pub(crate) fn moved(by: u32, error: RuleError) -> RuleError
     requires by { IsInText by }
-    requires near { IsNear error }
+    requires near { IsPlaceInText error }
     ensures { result ≡ moved_error by error }
 {
     match error {

@@ -1,7 +1,7 @@
 //! Notes on constraints that no rule may have.
 
 ghost use Rattle.std.specs.Prelude.{◌≡◌, map, IfOk};
-ghost use Rattle.rule_text.specs.Views.{plain_note};
+ghost use Rattle.rule_text.specs.RuleValues.{plain_note};
 
 use drc_io::Name;
 use plain_types::Listed;

@@ -2,14 +2,14 @@
 
 ghost use Rattle.std.specs.Prelude.{◌≡◌, ◌<◌, ◌+◌, length, IfOk, Ok};
 ghost use Rattle.plain_types.specs.Limits.{most_text, IsInText};
-ghost use Rattle.sexpr_read.specs.Views.{tree_of, trees_left};
+ghost use Rattle.sexpr_read.specs.TreeViews.{tree_of, trees_left};
 ghost use Rattle.cond_lang.specs.Rules.{plain_rule, plain_constraint};
-ghost use Rattle.list_read.specs.Heads.{place};
-ghost use Rattle.rule_text.specs.Forms.{clauses};
+ghost use Rattle.list_read.specs.ListHeads.{place};
+ghost use Rattle.rule_text.specs.RuleForms.{clauses};
 ghost use Rattle.rule_text.specs.RulesOf.{severity_in, severity_named, is_asked, is_version, no_rules, rules_of};
-ghost use Rattle.rule_text.specs.Walk.{with_layer, with_severity, with_cond, noted, constrained, with_constraint, with_clause, with_clauses, rule_by, with_rule, with_rules};
-ghost use Rattle.rule_text.specs.Short.{AllShort, IsShort};
-ghost use Rattle.rule_text.specs.Views.{plain_draft, plain_lists, plain_rules, Gives};
+ghost use Rattle.rule_text.specs.RuleWalk.{with_layer, with_severity, with_cond, noted, constrained, with_constraint, with_clause, with_clauses, rule_by, with_rule, with_rules};
+ghost use Rattle.rule_text.specs.ShortRuleTrees.{AllShort, IsShort};
+ghost use Rattle.rule_text.specs.RuleValues.{plain_draft, plain_lists, plain_rules, Gives};
 
 use crate::conds::cond_in;
 use crate::constraints::{constraint_in, has_kind, is_asked, kind_named};
@@ -56,7 +56,7 @@ fn severity_in(clause: Node<'_, '_>) -> Result<Severity, RuleError>
     }
 }
 
-#[tactic(auto, unfolding(crate::specs::Walk::with_layer))]
+#[tactic(auto, unfolding(crate::specs::RuleWalk::with_layer))]
 fn with_layer(draft: Draft, clause: Node<'_, '_>) -> Result<Draft, RuleError>
     ensures { Gives plain_draft result (with_layer (plain_draft draft) (tree_of clause.entry)) }
 {
@@ -68,7 +68,7 @@ fn with_layer(draft: Draft, clause: Node<'_, '_>) -> Result<Draft, RuleError>
     Ok(draft)
 }
 
-#[tactic(auto, unfolding(crate::specs::Walk::with_severity))]
+#[tactic(auto, unfolding(crate::specs::RuleWalk::with_severity))]
 fn with_severity(draft: Draft, clause: Node<'_, '_>) -> Result<Draft, RuleError>
     ensures { Gives plain_draft result (with_severity (plain_draft draft) (tree_of clause.entry)) }
 {
@@ -81,7 +81,7 @@ fn with_severity(draft: Draft, clause: Node<'_, '_>) -> Result<Draft, RuleError>
 }
 
 /// Where no condition is asked, it is passed over.
-#[tactic(auto, unfolding(crate::specs::Walk::with_cond))]
+#[tactic(auto, unfolding(crate::specs::RuleWalk::with_cond))]
 fn with_cond(
     alloc: Global,
     asked: bool,
@@ -89,7 +89,8 @@ fn with_cond(
     clause: Node<'_, '_>,
 ) -> Result<Draft, RuleError>
     requires { IsShort (tree_of clause) }
-    ensures { Gives plain_draft result (with_cond asked (plain_draft draft) (tree_of clause.entry)) }
+    ensures { Gives plain_draft result
+        (with_cond asked (plain_draft draft) (tree_of clause.entry)) }
 {
     if !asked || draft.cond.is_some() {
         return Ok(draft);
@@ -138,10 +139,11 @@ fn with_more(draft: Draft, constraint: Constraint) -> Result<Draft, RuleError>
 }
 
 /// Of two constraints of one kind the first counts.
-#[tactic(auto, unfolding(crate::specs::Walk::with_constraint))]
+#[tactic(auto, unfolding(crate::specs::RuleWalk::with_constraint))]
 fn with_constraint(alloc: Global, draft: Draft, clause: Node<'_, '_>) -> Result<Draft, RuleError>
     requires { IsShort (tree_of clause) }
-    ensures { Gives plain_draft result (with_constraint (plain_draft draft) (tree_of clause.entry)) }
+    ensures { Gives plain_draft result
+        (with_constraint (plain_draft draft) (tree_of clause.entry)) }
 {
     let name = match name_at(clause) {
         Ok(name) => name,
@@ -165,7 +167,7 @@ fn with_constraint(alloc: Global, draft: Draft, clause: Node<'_, '_>) -> Result<
     }
 }
 
-#[tactic(auto, unfolding(crate::specs::Walk::with_clause))]
+#[tactic(auto, unfolding(crate::specs::RuleWalk::with_clause))]
 fn with_clause(
     alloc: Global,
     asked: bool,
@@ -173,7 +175,8 @@ fn with_clause(
     clause: Node<'_, '_>,
 ) -> Result<Draft, RuleError>
     requires { IsShort (tree_of clause) }
-    ensures { Gives plain_draft result (with_clause asked (plain_draft draft) (tree_of clause.entry)) }
+    ensures { Gives plain_draft result
+        (with_clause asked (plain_draft draft) (tree_of clause.entry)) }
 {
     if has_head(clause, b"layer") {
         with_layer(draft, clause)
@@ -189,7 +192,7 @@ fn with_clause(
 }
 
 /// What all clauses of a rule say.
-#[tactic(auto, using(crate::proofs::Shortness::clauses_short, crate::proofs::Shortness::first_short, crate::proofs::Shortness::rest_short), unfolding(crate::specs::Walk::with_clauses))]
+#[tactic(auto, using(crate::proofs::Shortness::clauses_short, crate::proofs::Shortness::first_short, crate::proofs::Shortness::rest_short), unfolding(crate::specs::RuleWalk::with_clauses))]
 fn with_clauses(alloc: Global, draft: Draft, form: Node<'_, '_>) -> Result<Draft, RuleError>
     requires { IsShort (tree_of form) }
     ensures { Gives plain_draft result
@@ -226,7 +229,7 @@ fn rule_by(name: Name, draft: Draft) -> (Rule, Vec<RuleNote>)
 }
 
 /// `(rule NAME CLAUSE ..)`.
-#[tactic(auto, unfolding(crate::specs::Walk::with_rule))]
+#[tactic(auto, unfolding(crate::specs::RuleWalk::with_rule))]
 fn with_rule(alloc: Global, lists: Lists, form: Node<'_, '_>) -> Result<Lists, RuleError>
     requires short { IsShort (tree_of form) }
     requires few { length lists.rules.items < most_text }
@@ -253,7 +256,7 @@ fn with_rule(alloc: Global, lists: Lists, form: Node<'_, '_>) -> Result<Lists, R
 }
 
 /// The rules of the forms that are left.
-#[tactic(auto, using(crate::proofs::Shortness::first_short, crate::proofs::Shortness::rest_short), unfolding(crate::specs::Walk::with_rules))]
+#[tactic(auto, using(crate::proofs::Shortness::first_short, crate::proofs::Shortness::rest_short), unfolding(crate::specs::RuleWalk::with_rules))]
 fn with_rules(alloc: Global, forms: Children<'_, '_>) -> Result<Lists, RuleError>
     requires short { AllShort (trees_left forms) }
     requires few { IsInText (length (trees_left forms)) }

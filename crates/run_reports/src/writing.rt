@@ -4,7 +4,7 @@ ghost use Rattle.std.specs.Prelude.{◌≡◌, ◌++◌, [], All, map, length, f
 ghost use Rattle.std.specs.List.{flat_map};
 ghost use Rattle.drc_io.specs.Sinks.{Wrote};
 ghost use Rattle.cond_lang.specs.Rules.{plain_rule};
-ghost use Rattle.rule_text.specs.Views.{plain_rules};
+ghost use Rattle.rule_text.specs.RuleValues.{plain_rules};
 ghost use Rattle.pair_check.specs.Rows.{HasItems, HasSource};
 ghost use Rattle.net_groups.specs.NetParts.{is_open, IsWritable};
 ghost use Rattle.drc_rows.specs.Buffer.{Buffered};
@@ -175,7 +175,7 @@ fn push_items<W: Sink>(
 }
 
 /// Writes the line that opens a report, the rows, and how many they are. No rule stands behind them. `Failed` comes
-/// only where the sink's count of faults rose, and then a front part of these lines was written. It takes no memory.
+/// only where the sink's count of faults rose, and then a prefix of these lines was written. It takes no memory.
 pub fn write_rows_alone<W: Sink>(
     alloc: Global,
     board: &Board,
@@ -202,7 +202,7 @@ pub fn write_rows_alone<W: Sink>(
 }
 
 /// Writes the whole report of this number: the board's rows, its notes, its open nets, and how many tiles were gone
-/// through. `Failed` comes only where the sink's count of faults rose, and then a front part of the report was
+/// through. `Failed` comes only where the sink's count of faults rose, and then a prefix of the report was
 /// written. It takes no memory. What was put together goes out when the next piece has no room in 8,192 bytes, and at the end.
 pub fn write_whole<W: Sink>(
     number: u64,
@@ -252,7 +252,7 @@ fn push_counts<W: Sink>(
 }
 
 /// Writes the short report of this number: how many rows, notes and open nets there are, and how many tiles were gone
-/// through. `Failed` comes only where the sink's count of faults rose, and then a front part of the report was
+/// through. `Failed` comes only where the sink's count of faults rose, and then a prefix of the report was
 /// written. It takes no memory, and makes one write where the sink takes it whole.
 pub fn write_short<W: Sink>(
     number: u64,

@@ -2,9 +2,9 @@
 use Rattle.std.proofs.Common.{◌≡◌, ◌∙◌, ap, ℕ, ◌+◌, ◌<◌, ◌≤◌, List, [], ◌∷◌, ◌++◌, length, append-nil, append_assoc, Option, Some, None, Result, Ok, Err, IfErr, MatchResult, inl, inr, refl, sym, subst, arith}
 use Rattle.std.specs.Prelude.{replicate}
 use Rattle.std.proofs.Math.ListN.{length-replicate}
-use Rattle.drc_io.specs.Causes.{Rose}
+use Rattle.drc_io.specs.FaultCounts.{Rose}
 use Rattle.drc_io.specs.Files.{IsLonger, HasMore, file_of}
-use Rattle.net_class.specs.Classes.{plain_classes}
+use Rattle.net_class.specs.NetClasses.{plain_classes}
 use Rattle.rule_text.specs.RulesOf.{no_rules}
 use Rattle.edit_script.specs.Commands.{PlainCommand}
 use Rattle.drc_state.specs.States.{State}
@@ -13,8 +13,8 @@ use Rattle.run_texts.specs.declared.texts.Which.{Which}
 use Rattle.run_texts.specs.declared.texts.Which.TheVariants.{Board, Project, Rules, Script}
 use Rattle.run_texts.specs.declared.texts.Stop.{Stop}
 use Rattle.run_texts.specs.declared.texts.Stop.TheVariants.{Refused, Unread, OutOfMemory}
-use Rattle.run_texts.specs.Texts.{Named, named, optional, texts_of, Value, a_board, a_project, a_rules, a_script, Said, accepted, refused, ReaderSays, longer, read, too_long, AreBytesOf, SourceSays, AreAccepted, IsReached, ReadFails}
-use Rattle.run_texts.specs.Refusing.{why_of, HasRisen, StopsReading, StopsText, StopsTexts, StopsOption, StopsReadingOption, AreBytesOfOption, Gives, GivesReading, AreOpened, board_and_script}
+use Rattle.run_texts.specs.NamedTexts.{Named, named, optional, texts_of, Value, a_board, a_project, a_rules, a_script, Said, accepted, refused, ReaderSays, longer, read, too_long, AreBytesOf, SourceSays, AreAccepted, IsReached, ReadFails}
+use Rattle.run_texts.specs.RunFindings.{why_of, HasRisen, StopsReading, StopsText, StopsTexts, StopsOption, StopsReadingOption, AreBytesOfOption, Gives, GivesReading, AreOpened, board_and_script}
 
 module _ (told : Option (List (List ℕ × List ℕ))) where
   -- ---- one text

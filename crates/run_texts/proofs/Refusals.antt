@@ -6,10 +6,10 @@ use Rattle.run_texts.specs.declared.texts.Which.{Which}
 use Rattle.run_texts.specs.declared.texts.Refusal.{Refusal}
 use Rattle.run_texts.specs.declared.texts.Stop.{Stop}
 use Rattle.run_texts.specs.declared.texts.Stop.TheVariants.{Refused, Unread, OutOfMemory}
-use Rattle.run_texts.specs.Texts.{named, refused, reason_text, IsRefusalText, ReaderSays, SourceSays, too_long}
-use Rattle.run_texts.specs.Refusing.{reason_in, why_of, IsStopOf, StopsReading, StopsText}
+use Rattle.run_texts.specs.NamedTexts.{named, refused, reason_text, IsRefusalText, ReaderSays, SourceSays, too_long}
+use Rattle.run_texts.specs.RunFindings.{reason_in, why_of, IsStopOf, StopsReading, StopsText}
 
--- a reader that refuses the bytes refuses them for the reason of its error. Want of memory has no place
+-- a reader that refuses the bytes refuses them for the reason of its error. Running out of memory has no place
 module _ {A E : Type 0} (reason : E → PlainReason) (none : E) (nowhere : (reason none).place ≡ None) (Says : Result A E → Type 0) where
   pub refuses_so : (e : E) (r : Refusal) → (e ≡ none) ⊎ Says (Err e) → reason_in r ≡ reason e → (error : E) × Says (Err error) × IsRefusalText (reason error) (why_of r)
   refuses_so e r (inl wants) same =

@@ -5,13 +5,13 @@ use Rattle.edit_script.specs.declared.error.ScriptError.{ScriptError}
 use Rattle.edit_script.specs.declared.error.ScriptError.TheVariants.{OutOfMemory}
 use Rattle.edit_script.specs.declared.command.Command.{Command}
 use Rattle.edit_script.specs.Commands.{PlainCommand, plain_command, place_of}
-use Rattle.edit_script.specs.Reasons.{script_reason}
+use Rattle.edit_script.specs.ScriptReasons.{script_reason}
 use Rattle.edit_script.specs.ScriptText.{ScriptSays}
 use Rattle.run_texts.specs.declared.texts.Refusal.{Refusal}
 use Rattle.run_texts.specs.declared.texts.Stop.{Stop}
 use Rattle.run_texts.specs.declared.texts.Which.TheVariants.{Trials}
-use Rattle.run_texts.specs.Texts.{reason_text, too_many, a_script, accepted, ReaderSays, RefusesTrials}
-use Rattle.run_texts.specs.Refusing.{reason_in, why_of, IsStopOf, StopsReading}
+use Rattle.run_texts.specs.NamedTexts.{reason_text, too_many, a_script, accepted, ReaderSays, RefusesTrials}
+use Rattle.run_texts.specs.RunFindings.{reason_in, why_of, IsStopOf, StopsReading}
 use Rattle.run_texts.proofs.Refusals.{refuses_so, stops_so}
 
 -- by the reader of scripts

@@ -1,3 +1,3 @@
-pub mod Texts
-pub mod Refusing
-pub mod Views
+pub mod NamedTexts
+pub mod RunFindings
+pub mod OpenedValues

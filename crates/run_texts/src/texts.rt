@@ -4,20 +4,20 @@ ghost use Rattle.std.specs.Prelude.{◌≡◌, ◌≤◌, ℕ, List, [], Option,
 ghost use Rattle.std.specs.Prelude.{MatchOption, Ok, Err, length, map, All, option_map, slice_get};
 ghost use Rattle.plain_types.specs.Limits.{IsInText, IsReadable, most_trials};
 ghost use Rattle.drc_io.specs.Files.{IsWholeFile};
-ghost use Rattle.net_class.specs.Classes.{plain_classes};
+ghost use Rattle.net_class.specs.NetClasses.{plain_classes};
 ghost use Rattle.rule_text.specs.RulesOf.{no_rules};
-ghost use Rattle.rule_text.specs.Views.{plain_rules};
+ghost use Rattle.rule_text.specs.RuleValues.{plain_rules};
 ghost use Rattle.edit_script.specs.Commands.{PlainCommand, place_of, plain_command, plain_step};
 ghost use Rattle.edit_script.specs.Fits.{Fits, StepFits, AreShallow};
 ghost use Rattle.made_board.specs.MadeBoard.{made_text};
 ghost use Rattle.run_words.specs.Calls.{PlainCall, check};
-ghost use Rattle.run_words.specs.Views.{source_in, reading_in, SourceFits, RequestFits};
-ghost use Rattle.run_texts.specs.Views.{opened_in};
-ghost use Rattle.run_texts.specs.Texts.{named, word_of, texts_of, a_board, a_project, a_rules};
-ghost use Rattle.run_texts.specs.Texts.{a_script, some_steps, accepted, ReaderSays, AreBytesOf, SourceSays};
-ghost use Rattle.run_texts.specs.Refusing.{StopsReading, StopsText, StopsTexts, StopsOption};
-ghost use Rattle.run_texts.specs.Refusing.{StopsReadingOption, AreBytesOfOption, Gives, GivesReading};
-ghost use Rattle.run_texts.specs.Refusing.{AreOpened, IsStopOf, only_board, board_and_script};
+ghost use Rattle.run_words.specs.CallValues.{source_in, reading_in, SourceFits, RequestFits};
+ghost use Rattle.run_texts.specs.OpenedValues.{opened_in};
+ghost use Rattle.run_texts.specs.NamedTexts.{named, word_of, texts_of, a_board, a_project, a_rules};
+ghost use Rattle.run_texts.specs.NamedTexts.{a_script, some_steps, accepted, ReaderSays, AreBytesOf, SourceSays};
+ghost use Rattle.run_texts.specs.RunFindings.{StopsReading, StopsText, StopsTexts, StopsOption};
+ghost use Rattle.run_texts.specs.RunFindings.{StopsReadingOption, AreBytesOfOption, Gives, GivesReading};
+ghost use Rattle.run_texts.specs.RunFindings.{AreOpened, IsStopOf, only_board, board_and_script};
 
 use board_items::Board;
 use drc_io::{FetchError, Shelf, fetch};
@@ -97,7 +97,7 @@ pub struct Texts {
     pub rules: Rules,
 }
 
-/// The refusal of a text for this reason. Want of memory has no place.
+/// The refusal of a text for this reason. Running out of memory has no place.
 fn refused_for(which: Which, why: &Reason) -> Stop
     ensures { IsStopOf which why.now result }
 {
@@ -112,7 +112,7 @@ fn refused_for(which: Which, why: &Reason) -> Stop
     }
 }
 
-/// The refusal of a text by its reader. Want of memory has no place.
+/// The refusal of a text by its reader. Running out of memory has no place.
 pub fn refused<E: HasReason>(which: Which, error: &E) -> Stop
     ensures { IsStopOf which (E.reason_of error.now) result }
 {

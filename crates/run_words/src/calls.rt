@@ -4,7 +4,7 @@ ghost use Rattle.std.specs.Prelude.{◌≡◌, ◌≤◌, [], ◌∷◌, IfOk, I
 ghost use Rattle.plain_types.specs.Limits.{most_workers};
 ghost use Rattle.run_words.specs.Calls.{check_call, names_file, two_files, undo_if, try_if, try_call};
 ghost use Rattle.run_words.specs.Calls.{call_of, words_of, file_and_number, steal_if, write_if};
-ghost use Rattle.run_words.specs.Views.{files_in, call_in, CallFits, numbered_in};
+ghost use Rattle.run_words.specs.CallValues.{files_in, call_in, CallFits, numbered_in};
 
 use crate::words::{MOST_WORKERS, Request, number_in, request_of};
 use std::alloc::{AllocError, Global};
@@ -44,7 +44,7 @@ pub enum Call<'a> {
 }
 
 /// The call of a check, whatever the first word is. Words that call for nothing give the line that says how the
-/// program is called. The one error is want of memory.
+/// program is called. The one error is running out of memory.
 pub fn check_call<'a>(alloc: Global, words: &'a [&'a str]) -> Result<Call<'a>, AllocError>
     ensures call { IfOk result (λ call. call_in call ≡ check_call (words_of words.entry.now)) }
     ensures fits { IfOk result CallFits }
@@ -171,7 +171,7 @@ fn write_call<'a>(words: &'a [&'a str]) -> Call<'a>
 
 /// The call of the words, by the first of them: `undo`, `try`, `steal` and `write` have calls of their own, and all
 /// else calls for a check. Words that call for nothing give the line that says how the program is called. The one error
-/// is want of memory.
+/// is running out of memory.
 pub fn call_of<'a>(alloc: Global, words: &'a [&'a str]) -> Result<Call<'a>, AllocError>
     ensures call { IfOk result (λ call. call_in call ≡ call_of (words_of words.entry.now)) }
     ensures fits { IfOk result CallFits }

@@ -5,7 +5,7 @@ ghost use Rattle.clap.specs.Words.{app_of, rule_of, with_rule, first_value, foun
 ghost use Rattle.plain_types.specs.Limits.{IsWorkerCount};
 ghost use Rattle.run_words.specs.Calls.{option_rule, bare_app, app_with_board, app_with_files, drc_app};
 ghost use Rattle.run_words.specs.Calls.{number_in, workers_of, source_of, reading_of, reading_by, words_of};
-ghost use Rattle.run_words.specs.Views.{source_in, reading_in, SourceFits, RequestFits};
+ghost use Rattle.run_words.specs.CallValues.{source_in, reading_in, SourceFits, RequestFits};
 
 use clap::error::ErrorKind;
 use clap::{Arg, ArgMatches, Command};

@@ -7,12 +7,12 @@ use Rattle.std.proofs.lemmas.Str.{is_utf8-from_IsUtf8, IsUtf8-from_is_utf8}
 use Rattle.sexpr_read.specs.declared.place.TextError.{TextError}
 use Rattle.sexpr_read.specs.declared.place.TextError.TheVariants.{NotUtf8, OutOfMemory}
 use Rattle.sexpr_read.specs.declared.bytes.ByteClass.{ByteClass}
-use Rattle.sexpr_read.specs.Bytes.{sign_of}
+use Rattle.sexpr_read.specs.ByteClasses.{sign_of}
 use Rattle.sexpr_read.specs.Comments.{shown}
 use Rattle.sexpr_read.specs.Tree.{Forest, none, atom, list, levels_in, Tree, leaf, branch, levels}
 use Rattle.sexpr_read.specs.Spelling.{SpellsForest, Spells, SpellsAll}
-use Rattle.sexpr_read.specs.Refusals.{outside, whole_fault, refusal_of_one, refusal_of_all, is_blank_before}
-use Rattle.sexpr_read.specs.Runs.{Stands}
+use Rattle.sexpr_read.specs.TreeRefusals.{outside, whole_fault, refusal_of_one, refusal_of_all, is_blank_before}
+use Rattle.sexpr_read.specs.ReaderProgress.{Stands}
 use Rattle.sexpr_read.proofs.Machine.{IsInner, over_gap, over_word, over_string, over_open, over_first, over_close}
 use Rattle.sexpr_read.proofs.Unique.{forest_ordered, unique_tree, unique_forms}
 use Rattle.sexpr_read.proofs.Faults.{stands_first, blank_gap, not_blank, whole_by_end}

@@ -5,7 +5,7 @@ use Rattle.sexpr_read.specs.declared.arena.TreeKind.{TreeKind}
 use Rattle.sexpr_read.specs.declared.arena.TreeKind.TheVariants.{Word, String, List as Nested}
 use Rattle.sexpr_read.specs.declared.arena.Cell.{Cell}
 use Rattle.sexpr_read.specs.Tree.{Forest, none, atom, list}
-use Rattle.sexpr_read.specs.Cells.{cells_of, kind_at, front, back, grown, forest_of}
+use Rattle.sexpr_read.specs.ForestCells.{cells_of, kind_at, prefix, back, grown, forest_of}
 
 -- one forest before another
 abbrev pub join : Forest → Forest → Forest
@@ -32,13 +32,13 @@ IsOfText text (atom s false c others) = (kind_at text s.at ≡ Word) × (c ≡ s
 IsOfText text (atom s true c others) = (kind_at text s.at ≡ String) × (c ≡ slice_range text (s.at + 1) (s.end - 1)) × IsOfText text others
 IsOfText text (list s inside others) = (kind_at text s.at ≡ Nested) × IsOfText text inside × IsOfText text others
 
-pub of_text-front : (text : List ℕ) (k : ℕ) (f : Forest) → IsOfText text f → IsOfText text (front k f)
-unfolding front
-of_text-front text zero f h = tt
-of_text-front text (suc k) none h = tt
-of_text-front text (suc k) (atom s false c others) h = (h.0, h.1, of_text-front text k others h.2)
-of_text-front text (suc k) (atom s true c others) h = (h.0, h.1, of_text-front text k others h.2)
-of_text-front text (suc k) (list s inside others) h = (h.0, h.1, of_text-front text (k - length (cells_of inside)) others h.2)
+pub of_text-prefix : (text : List ℕ) (k : ℕ) (f : Forest) → IsOfText text f → IsOfText text (prefix k f)
+unfolding prefix
+of_text-prefix text zero f h = tt
+of_text-prefix text (suc k) none h = tt
+of_text-prefix text (suc k) (atom s false c others) h = (h.0, h.1, of_text-prefix text k others h.2)
+of_text-prefix text (suc k) (atom s true c others) h = (h.0, h.1, of_text-prefix text k others h.2)
+of_text-prefix text (suc k) (list s inside others) h = (h.0, h.1, of_text-prefix text (k - length (cells_of inside)) others h.2)
 
 pub of_text-back : (text : List ℕ) (k : ℕ) (f : Forest) → IsOfText text f → IsOfText text (back k f)
 unfolding back
@@ -51,7 +51,7 @@ of_text-back text (suc k) (list s inside others) h = of_text-back text (k - leng
 of_text-grown : (text : List ℕ) (k : TreeKind) (c : Cell) (f : Forest) → kind_at text c.at ≡ k → IsOfText text f → IsOfText text (grown text k c f)
 of_text-grown text Word c f e h = (e, refl, h)
 of_text-grown text String c f e h = (e, refl, h)
-of_text-grown text Nested c f e h = (e, of_text-front text c.inside f h, of_text-back text c.inside f h)
+of_text-grown text Nested c f e h = (e, of_text-prefix text c.inside f h, of_text-back text c.inside f h)
 
 pub of_text-forest_of : (text : List ℕ) (cells : List Cell) → IsOfText text (forest_of text cells)
 unfolding forest_of
@@ -62,14 +62,14 @@ of_text-forest_of text (c ∷ cells) = of_text-grown text (kind_at text c.at) c 
 rest_length : (a b n : ℕ) → n ≡ a + b → n - a ≡ b
 rest_length a b n e = omega arith
 
-front-join : (f g : Forest) → front (length (cells_of f)) (join f g) ≡ f
-unfolding front
-front-join none g = refl
-front-join (atom s q c others) g = ap (λ x. atom s q c x) (front-join others g)
-front-join (list s inside others) g =
+prefix-join : (f g : Forest) → prefix (length (cells_of f)) (join f g) ≡ f
+unfolding prefix
+prefix-join none g = refl
+prefix-join (atom s q c others) g = ap (λ x. atom s q c x) (prefix-join others g)
+prefix-join (list s inside others) g =
     let n : length (cells_of inside ++ cells_of others) - length (cells_of inside) ≡ length (cells_of others) =
     rest_length _ _ _ (length-append (cells_of inside) (cells_of others)) in
-    ap (λ x. list s inside x) (ap (λ k. front k (join others g)) n ∙ front-join others g)
+    ap (λ x. list s inside x) (ap (λ k. prefix k (join others g)) n ∙ prefix-join others g)
 
 back-join : (f g : Forest) → back (length (cells_of f)) (join f g) ≡ g
 unfolding back
@@ -95,7 +95,7 @@ forest_of-cells_of-append text (list s inside others) cells h =
     ap (forest_of text) (append_assoc (cells_of inside) (cells_of others) cells)
     ∙ forest_of-cells_of-append text inside (cells_of others ++ cells) h.1
     ∙ ap (join inside) (forest_of-cells_of-append text others cells h.2) in
-    rw (h.0, split) (ap (λ x. list s x (back (length (cells_of inside)) (join inside (join others (forest_of text cells))))) (front-join inside (join others (forest_of text cells)))
+    rw (h.0, split) (ap (λ x. list s x (back (length (cells_of inside)) (join inside (join others (forest_of text cells))))) (prefix-join inside (join others (forest_of text cells)))
     ∙ ap (λ x. list s inside x) (back-join inside (join others (forest_of text cells))))
 
 pub forest_of-cells_of : (text : List ℕ) (f : Forest) → IsOfText text f → forest_of text (cells_of f) ≡ f

@@ -4,9 +4,9 @@ use Rattle.sexpr_read.specs.declared.bytes.ByteClass.{ByteClass}
 use Rattle.sexpr_read.specs.declared.bytes.ByteClass.TheVariants.{Open}
 use Rattle.sexpr_read.specs.declared.place.TextError.{TextError}
 use Rattle.sexpr_read.specs.declared.place.TextError.TheVariants.{EndInside}
-use Rattle.sexpr_read.specs.Spelling.{IsGap}
-use Rattle.sexpr_read.specs.Refusals.{Where, outside, in_string, after_backslash, where_at, first_fault, fault_in, end_fault_in, whole_fault, is_blank_before}
-use Rattle.sexpr_read.specs.Runs.{Stands, IsUnclosed}
+use Rattle.sexpr_read.specs.Spelling.{IsSpaceBetween}
+use Rattle.sexpr_read.specs.TreeRefusals.{Where, outside, in_string, after_backslash, where_at, first_fault, fault_in, end_fault_in, whole_fault, is_blank_before}
+use Rattle.sexpr_read.specs.ReaderProgress.{Stands, IsUnclosed}
 use Rattle.sexpr_read.proofs.Ranges.{range_ind}
 use Rattle.sexpr_read.proofs.Machine.{over_content, over_backslash}
 
@@ -48,7 +48,7 @@ pub stands_first : (one : Bool) (sign : ℕ → ByteClass) → Stands one sign 0
 unfolding where_at first_fault
 stands_first one sign = record { where_is = refl; clean = refl }
 
-pub blank_gap : (sign : ℕ → ByteClass) (p : ℕ) → IsGap sign 0 p → is_blank_before sign p ≡ true
+pub blank_gap : (sign : ℕ → ByteClass) (p : ℕ) → IsSpaceBetween sign 0 p → is_blank_before sign p ≡ true
 unfolding is_blank_before
 blank_gap sign p gap =
     range_ind (λ i. is_blank_before sign i ≡ true) 0 p (omega arith) refl (λ i low high at. rw (gap.blank i low high, at) refl)

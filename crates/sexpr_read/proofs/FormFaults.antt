@@ -6,7 +6,7 @@ use Rattle.sexpr_read.specs.declared.bytes.ByteClass.TheVariants.{Space, Open, C
 use Rattle.sexpr_read.specs.declared.place.TextError.{TextError}
 use Rattle.sexpr_read.specs.declared.place.TextError.TheVariants.{OutOfMemory, TooDeep}
 use Rattle.sexpr_read.specs.Comments.{shown}
-use Rattle.sexpr_read.specs.Refusals.{Where, outside, in_string, after_backslash, where_at, first_fault, fault_in, fault_at, end_fault, end_fault_in, whole_fault, or_else, is_blank_before, IsOfForms}
+use Rattle.sexpr_read.specs.TreeRefusals.{Where, outside, in_string, after_backslash, where_at, first_fault, fault_in, fault_at, end_fault, end_fault_in, whole_fault, or_else, is_blank_before, IsOfForms}
 
 -- so it is of what comes, if anything does
 abbrev AreOfForms : Option TextError → Type 0

@@ -4,11 +4,11 @@ use Rattle.sexpr_read.specs.declared.arena.TreeKind.TheVariants.{Word, String, L
 use Rattle.sexpr_read.specs.declared.arena.Cell.{Cell}
 use Rattle.sexpr_read.specs.declared.bytes.ByteClass.{ByteClass}
 use Rattle.sexpr_read.specs.declared.bytes.ByteClass.TheVariants.{Space, Open, Close, Quote, Backslash, Plain}
-use Rattle.sexpr_read.specs.Bytes.{sign_of, is_word}
-use Rattle.sexpr_read.specs.Kinds.{kind_of}
+use Rattle.sexpr_read.specs.ByteClasses.{sign_of, is_word}
+use Rattle.sexpr_read.specs.TreeKinds.{kind_of}
 use Rattle.sexpr_read.specs.Tree.{Forest, none, atom, list}
 use Rattle.sexpr_read.specs.Spelling.{IsWord, IsString, SpellsForest}
-use Rattle.sexpr_read.specs.Cells.{cells_of, forest_of, kind_at, ArePlaced}
+use Rattle.sexpr_read.specs.ForestCells.{cells_of, forest_of, kind_at, ArePlaced}
 use Rattle.sexpr_read.proofs.CellLemmas.{IsOfText, forest_of-cells_of}
 use Rattle.sexpr_read.proofs.Unique.{IsHead, word_head, word_first, string_ordered, forest_ordered}
 

@@ -3,8 +3,8 @@ use Rattle.std.proofs.Common.{◌≡◌, ℕ, ◌<◌, Bool, true, false, Some, 
 use Rattle.sexpr_read.specs.declared.bytes.ByteClass.{ByteClass}
 use Rattle.sexpr_read.specs.declared.bytes.ByteClass.TheVariants.{Space, Open, Close, Quote, Backslash, Plain}
 use Rattle.sexpr_read.specs.declared.place.TextError.TheVariants.{CloseWithoutOpen, ExtraText}
-use Rattle.sexpr_read.specs.Refusals.{outside, whole_fault, is_blank_before, outer_fault}
-use Rattle.sexpr_read.specs.Runs.{Stands}
+use Rattle.sexpr_read.specs.TreeRefusals.{outside, whole_fault, is_blank_before, outer_fault}
+use Rattle.sexpr_read.specs.ReaderProgress.{Stands}
 use Rattle.sexpr_read.proofs.Faults.{whole_by_place}
 
 -- a bracket that closes no list

@@ -5,10 +5,10 @@ use Rattle.std.proofs.lemmas.Bool.Decides.{nat_tests}
 use Rattle.std.specs.Prelude.{slice_index_or, if◌then◌else◌}
 use Rattle.sexpr_read.specs.declared.bytes.ByteClass.{ByteClass}
 use Rattle.sexpr_read.specs.declared.bytes.ByteClass.TheVariants.{Space, Open, Close, Quote, Backslash, Plain}
-use Rattle.sexpr_read.specs.Bytes.{class_of, sign_of, is_word, is_itself}
+use Rattle.sexpr_read.specs.ByteClasses.{class_of, sign_of, is_word, is_itself}
 use Rattle.sexpr_read.specs.Comments.{fresh, begun, quoting, escaping, comment, line_beyond, line_at, is_passed, shown, signs}
 use Rattle.sexpr_read.specs.Spelling.{IsWord, IsContent, empty, itself, escape, IsString}
-use Rattle.sexpr_read.specs.Runs.{line_of, IsUnclosed, IsInLine, IsPlain, IsSettled}
+use Rattle.sexpr_read.specs.ReaderProgress.{line_of, IsUnclosed, IsInLine, IsPlain, IsSettled}
 use Rattle.sexpr_read.proofs.Ranges.{range_ind}
 
 -- the byte at a place

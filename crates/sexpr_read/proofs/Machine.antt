@@ -2,10 +2,10 @@
 use Rattle.std.proofs.Common.{◌≡◌, ℕ, zero, suc, ◌<◌, Bool, true, false, ◌==◌, None, refl, arith}
 use Rattle.sexpr_read.specs.declared.bytes.ByteClass.{ByteClass}
 use Rattle.sexpr_read.specs.declared.bytes.ByteClass.TheVariants.{Space, Open, Close, Quote, Backslash, Plain}
-use Rattle.sexpr_read.specs.Bytes.{is_word, is_itself}
-use Rattle.sexpr_read.specs.Spelling.{IsGap, IsWord, IsContent, empty, itself, escape, IsString}
-use Rattle.sexpr_read.specs.Refusals.{Where, outside, in_string, after_backslash, beyond, where_at, first_fault, fault_in, is_blank_before}
-use Rattle.sexpr_read.specs.Runs.{Stands}
+use Rattle.sexpr_read.specs.ByteClasses.{is_word, is_itself}
+use Rattle.sexpr_read.specs.Spelling.{IsSpaceBetween, IsWord, IsContent, empty, itself, escape, IsString}
+use Rattle.sexpr_read.specs.TreeRefusals.{Where, outside, in_string, after_backslash, beyond, where_at, first_fault, fault_in, is_blank_before}
+use Rattle.sexpr_read.specs.ReaderProgress.{Stands}
 use Rattle.sexpr_read.proofs.Ranges.{range_ind}
 
 -- words and strings may stand at this depth
@@ -25,7 +25,7 @@ pub over_space : (one : Bool) (sign : ℕ → ByteClass) (p d : ℕ) → Stands 
 over_space one sign p zero here e = stands_next one sign p (outside zero) Space here e refl
 over_space one sign p (suc d) here e = stands_next one sign p (outside (suc d)) Space here e refl
 
-pub over_gap : (one : Bool) (sign : ℕ → ByteClass) (a b d : ℕ) → IsGap sign a b → Stands one sign a (outside d) → Stands one sign b (outside d)
+pub over_gap : (one : Bool) (sign : ℕ → ByteClass) (a b d : ℕ) → IsSpaceBetween sign a b → Stands one sign a (outside d) → Stands one sign b (outside d)
 over_gap one sign a b d gap here =
     range_ind (λ i. Stands one sign i (outside d)) a b gap.ordered here (λ i low high at. over_space one sign i d at (gap.blank i low high))
 

@@ -2,11 +2,11 @@
 use Rattle.std.proofs.Common.{◌≡◌, ℕ, suc, ◌+◌, ◌-◌, ◌≤◌, ◌<◌, Bool, true, false, List, length, arith}
 use Rattle.sexpr_read.specs.declared.place.Span.{Span}
 use Rattle.sexpr_read.specs.declared.bytes.ByteClass.{ByteClass}
-use Rattle.sexpr_read.specs.Bytes.{sign_of}
+use Rattle.sexpr_read.specs.ByteClasses.{sign_of}
 use Rattle.sexpr_read.specs.Comments.{shown}
 use Rattle.sexpr_read.specs.Tree.{Forest, none, atom, list, Tree, leaf, branch, span}
 use Rattle.sexpr_read.specs.Spelling.{IsAtom, SpellsForest, Spells, SpellsAll}
-use Rattle.sexpr_read.specs.Places.{IsSlice, StandBetween, PartsStandBetween}
+use Rattle.sexpr_read.specs.TreePlaces.{IsSlice, StandBetween, PartsStandBetween}
 use Rattle.sexpr_read.proofs.Unique.{atom_ordered, string_ordered, forest_ordered}
 
 module _ (sign : ℕ → ByteClass) (text : List ℕ) where

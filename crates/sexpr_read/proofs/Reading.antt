@@ -7,11 +7,11 @@ use Rattle.sexpr_read.specs.declared.arena.Cell.{Cell}
 use Rattle.sexpr_read.specs.declared.bytes.ByteClass.TheVariants.{Open, Close}
 use Rattle.sexpr_read.specs.Comments.{signs}
 use Rattle.sexpr_read.specs.Tree.{Forest, none, atom, list, levels_in}
-use Rattle.sexpr_read.specs.Kinds.{no_cell}
-use Rattle.sexpr_read.specs.Spelling.{IsGap, IsAtom, IsWord, IsString, SpellsForest}
-use Rattle.sexpr_read.specs.Refusals.{outside}
-use Rattle.sexpr_read.specs.Cells.{cells_of}
-use Rattle.sexpr_read.specs.Runs.{Stands, outer_levels, TreesAreRead}
+use Rattle.sexpr_read.specs.TreeKinds.{no_cell}
+use Rattle.sexpr_read.specs.Spelling.{IsSpaceBetween, IsAtom, IsWord, IsString, SpellsForest}
+use Rattle.sexpr_read.specs.TreeRefusals.{outside}
+use Rattle.sexpr_read.specs.ForestCells.{cells_of}
+use Rattle.sexpr_read.specs.ReaderProgress.{Stands, outer_levels, TreesAreRead}
 use Rattle.sexpr_read.proofs.Machine.{IsInner, over_gap, over_word, over_string, over_open, over_close}
 use Rattle.sexpr_read.proofs.CellLemmas.{join, cells_of-join}
 use Rattle.sexpr_read.proofs.Joined.{no_gap, spelled_join, spelled_gap, levels_in-join}
@@ -74,7 +74,7 @@ reading_start one text from here = record {
     few_levels false = omega arith
 
 pub reading_gap : (one : Bool) (text : List ℕ) (from p q depth innermost : ℕ) (cells : List Cell)
-    → IsGap (signs one text) p q → Reading one text from p depth innermost cells → Reading one text from q depth innermost cells
+    → IsSpaceBetween (signs one text) p q → Reading one text from p depth innermost cells → Reading one text from q depth innermost cells
 reading_gap one text from p q depth innermost cells gap r = record {
   outer = r.outer;
   now = r.now;
@@ -167,24 +167,24 @@ close_level : (one : Bool) (text : List ℕ) (from p depth innermost : ℕ) (cel
     → depth + levels_in now ≤ 64 → Stands one (signs one text) p (outside depth) → length cells ≤ p
     → Closes one text from p depth innermost cells
 close_level one text from p depth innermost cells l outer now e are_open spelled kept linked deep shallow here few =
-    let front : List Cell = open_cells outer ++ cells_of l.before in
+    let prefix : List Cell = open_cells outer ++ cells_of l.before in
     let c : Cell = record { at = l.at; end = 0; inside = length (open_cells outer) } in
     let s : Span = record { at = l.at; end = suc p } in
     let one_list : Forest = list s now none in
     let w : Cell = record { at = l.at; end = suc p; inside = length (cells_of now) } in
-    let counted : innermost ≡ length front + 1 = linked ∙ length-append front (c ∷ []) in
-    let place : innermost - 1 ≡ length front = omega arith in
-    let whole : cells ≡ front ++ c ∷ cells_of now = kept ∙ append_assoc front (c ∷ []) (cells_of now) in
-    let size : length cells ≡ length front + suc (length (cells_of now)) = ap length whole ∙ length-append front (c ∷ cells_of now) in
+    let counted : innermost ≡ length prefix + 1 = linked ∙ length-append prefix (c ∷ []) in
+    let place : innermost - 1 ≡ length prefix = omega arith in
+    let whole : cells ≡ prefix ++ c ∷ cells_of now = kept ∙ append_assoc prefix (c ∷ []) (cells_of now) in
+    let size : length cells ≡ length prefix + suc (length (cells_of now)) = ap length whole ∙ length-append prefix (c ∷ cells_of now) in
     let found : slice_index_or cells (innermost - 1) no_cell ≡ c =
-    ap (λ i. get_or cells i no_cell) place ∙ ap (λ x. get_or x (length front) no_cell) whole ∙ get_or-append_seam front c (cells_of now) no_cell in
+    ap (λ i. get_or cells i no_cell) place ∙ ap (λ x. get_or x (length prefix) no_cell) whole ∙ get_or-append_seam prefix c (cells_of now) no_cell in
     let inner : length cells - innermost ≡ length (cells_of now) = omega arith in
     let made : ℕ → ℕ → Cell = λ x y. record { at = x; end = suc p; inside = y } in
     let v : Cell = made (slice_index_or cells (innermost - 1) no_cell).at (length cells - innermost) in
     let cell_is : v ≡ w = ap (λ (x : Cell). made x.at (length cells - innermost)) found ∙ ap (made l.at) inner in
-    let written : closed cells innermost (suc p) ≡ front ++ w ∷ cells_of now =
-    ap (λ i. slice_set cells i v) place ∙ ap (slice_set cells (length front)) cell_is
-    ∙ ap (λ x. slice_set x (length front) w) whole ∙ set-append_seam front c (cells_of now) w in
+    let written : closed cells innermost (suc p) ≡ prefix ++ w ∷ cells_of now =
+    ap (λ i. slice_set cells i v) place ∙ ap (slice_set cells (length prefix)) cell_is
+    ∙ ap (λ x. slice_set x (length prefix) w) whole ∙ set-append_seam prefix c (cells_of now) w in
     let d : ℕ = length outer + outer_levels one in
     let less : depth - 1 ≡ d = omega arith in
     let was : depth ≡ suc d = omega arith in
@@ -204,7 +204,7 @@ close_level one text from p depth innermost cells l outer now e are_open spelled
         deep = less;
         shallow = omega (arith, levels_in-join l.before one_list, are_open.2);
         stands = rw less stands;
-        few = omega (arith, ap length written, length-append front (w ∷ cells_of now));
+        few = omega (arith, ap length written, length-append prefix (w ∷ cells_of now));
       };
     }
 

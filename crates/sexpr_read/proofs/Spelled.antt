@@ -3,7 +3,7 @@ use Rattle.std.proofs.Common.{◌≡◌, ℕ, suc, ◌≤◌, ◌∙◌, true, f
 use Rattle.std.proofs.Math.ListN.{get_or-eq_default}
 use Rattle.sexpr_read.specs.declared.bytes.ByteClass.{ByteClass}
 use Rattle.sexpr_read.specs.declared.bytes.ByteClass.TheVariants.{Space, Open, Close, Quote, Backslash, Plain}
-use Rattle.sexpr_read.specs.Bytes.{class_of, sign_of, is_word, is_itself}
+use Rattle.sexpr_read.specs.ByteClasses.{class_of, sign_of, is_word, is_itself}
 use Rattle.sexpr_read.specs.Spelling.{IsContent, empty, itself, escape}
 
 pub past_end : (text : List ℕ) (p : ℕ) → length text ≤ p → sign_of text p ≡ Space

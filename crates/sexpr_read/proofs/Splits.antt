@@ -6,8 +6,8 @@ use Rattle.sexpr_read.specs.declared.arena.TreeKind.{TreeKind}
 use Rattle.sexpr_read.specs.declared.arena.TreeKind.TheVariants.{Word, String, List as Nested}
 use Rattle.sexpr_read.specs.declared.arena.Cell.{Cell}
 use Rattle.sexpr_read.specs.Tree.{Forest, none, atom, list, Tree, leaf, branch, trees}
-use Rattle.sexpr_read.specs.Cells.{cells_of, kind_at, front, back, grown, forest_of, tree_at, ArePlaced}
-use Rattle.sexpr_read.proofs.CellLemmas.{IsOfText, of_text-front, of_text-back, of_text-forest_of, forest_of-cells_of}
+use Rattle.sexpr_read.specs.ForestCells.{cells_of, kind_at, prefix, back, grown, forest_of, tree_at, ArePlaced}
+use Rattle.sexpr_read.proofs.CellLemmas.{IsOfText, of_text-prefix, of_text-back, of_text-forest_of, forest_of-cells_of}
 
 pub record Splits (text : List ℕ) (c : Cell) (cells : List Cell) : Type 0 where
   pub fits : c.inside ≤ length cells
@@ -63,10 +63,10 @@ splits_by text c cells String k e =
     (leaf (record { at = c.at; end = c.end }) true (slice_range text (c.at + 1) (c.end - 1))) refl e (rw k refl) (rw k refl)
 splits_by text c cells Nested k e =
     let f : Forest = forest_of text cells in
-    let d : Cell = record { at = c.at; end = c.end; inside = length (cells_of (front c.inside f)) } in
+    let d : Cell = record { at = c.at; end = c.end; inside = length (cells_of (prefix c.inside f)) } in
     let same : d ≡ c = cc in
-    let rest : cells_of (front c.inside f) ++ cells_of (back c.inside f) ≡ cells = cc in
-    list_splits text c cells (front c.inside f) (back c.inside f) (of_text-front text c.inside f (of_text-forest_of text cells))
+    let rest : cells_of (prefix c.inside f) ++ cells_of (back c.inside f) ≡ cells = cc in
+    list_splits text c cells (prefix c.inside f) (back c.inside f) (of_text-prefix text c.inside f (of_text-forest_of text cells))
     (of_text-back text c.inside f (of_text-forest_of text cells)) (ap (λ (x : Cell). x.inside) same) rest k (rw k refl)
 
 pub splits : (text : List ℕ) (c : Cell) (cells : List Cell) → cells_of (forest_of text (c ∷ cells)) ≡ c ∷ cells → Splits text c cells

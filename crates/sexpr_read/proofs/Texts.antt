@@ -10,12 +10,12 @@ use Rattle.std.proofs.lemmas.Str.{IsUtf8-between, IsCharBoundary-end, IsCharBoun
 use Rattle.sexpr_read.specs.declared.arena.Cell.{Cell}
 use Rattle.sexpr_read.specs.declared.bytes.ByteClass.{ByteClass}
 use Rattle.sexpr_read.specs.declared.bytes.ByteClass.TheVariants.{Space, Open, Close, Quote, Backslash, Plain}
-use Rattle.sexpr_read.specs.Bytes.{class_of, sign_of, is_word}
+use Rattle.sexpr_read.specs.ByteClasses.{class_of, sign_of, is_word}
 use Rattle.sexpr_read.specs.Comments.{Line, fresh, begun, quoting, escaping, comment, line_beyond, line_at, is_passed, shown, signs}
 use Rattle.sexpr_read.specs.Tree.{Forest, none, atom, list, Tree, trees, unescaped}
-use Rattle.sexpr_read.specs.Texts.{AreTexts, HasTexts}
-use Rattle.sexpr_read.specs.Spelling.{IsGap, IsWord, IsString, SpellsForest}
-use Rattle.sexpr_read.specs.Cells.{kind_at, forest_of, tree_at}
+use Rattle.sexpr_read.specs.AtomTexts.{AreTexts, HasTexts}
+use Rattle.sexpr_read.specs.Spelling.{IsSpaceBetween, IsWord, IsString, SpellsForest}
+use Rattle.sexpr_read.specs.ForestCells.{kind_at, forest_of, tree_at}
 use Rattle.sexpr_read.proofs.Escapes.{IsUtf8-unescaped}
 use Rattle.sexpr_read.proofs.Lines.{byte, sign_shown, sign_is, line_next, shown_plain, shown_passed, comment_next, comment_shown}
 use Rattle.sexpr_read.proofs.Unique.{forest_ordered, atom_head, string_ordered}
@@ -139,7 +139,7 @@ module _ (text : List ℕ) (u : IsUtf8 text) (sign : ℕ → ByteClass) (same : 
   quote_low : (p : ℕ) → sign p ≡ Quote → byte text p < 128
   quote_low p e = sign_low p Quote e (λ h. cc) (λ h. cc)
 
-  behind_space : (a b : ℕ) → IsGap sign a b → a < b → b ≤ length text → (sign b ≡ Space → ⊥) → IsCharBoundary text b
+  behind_space : (a b : ℕ) → IsSpaceBetween sign a b → a < b → b ≤ length text → (sign b ≡ Space → ⊥) → IsCharBoundary text b
   behind_space a zero g fore low head = absurd (omega arith)
   behind_space a (suc q) g fore low head =
       let space : sign q ≡ Space = g.blank q (omega arith) (omega arith) in
@@ -148,7 +148,7 @@ module _ (text : List ℕ) (u : IsUtf8 text) (sign : ℕ → ByteClass) (same : 
         | inr high ↦ absurd (head (whole.after q high space))
       ]
 
-  cut_over_gap : (a b : ℕ) → IsCharBoundary text a → IsGap sign a b → b ≤ length text → (sign b ≡ Space → ⊥) → IsCharBoundary text b
+  cut_over_gap : (a b : ℕ) → IsCharBoundary text a → IsSpaceBetween sign a b → b ≤ length text → (sign b ≡ Space → ⊥) → IsCharBoundary text b
   cut_over_gap a b cut g low head = elim (eq-or-lt_of_le g.ordered) [
     | inl e ↦ subst (IsCharBoundary text) e cut
     | inr fore ↦ behind_space a b g fore low head

@@ -5,10 +5,10 @@ use Rattle.std.specs.Prelude.{slice_range}
 use Rattle.sexpr_read.specs.declared.place.Span.{Span}
 use Rattle.sexpr_read.specs.declared.bytes.ByteClass.{ByteClass}
 use Rattle.sexpr_read.specs.declared.bytes.ByteClass.TheVariants.{Space, Open, Close, Quote, Backslash, Plain}
-use Rattle.sexpr_read.specs.Bytes.{is_word, is_itself, sign_of}
+use Rattle.sexpr_read.specs.ByteClasses.{is_word, is_itself, sign_of}
 use Rattle.sexpr_read.specs.Comments.{shown}
 use Rattle.sexpr_read.specs.Tree.{Forest, none, atom, list, Tree, leaf, branch}
-use Rattle.sexpr_read.specs.Spelling.{IsGap, IsWord, IsContent, empty, itself, escape, IsString, IsAtom, SpellsForest, Spells, SpellsAll}
+use Rattle.sexpr_read.specs.Spelling.{IsSpaceBetween, IsWord, IsContent, empty, itself, escape, IsString, IsAtom, SpellsForest, Spells, SpellsAll}
 
 -- a tree may begin so
 pub record IsHead (c : ByteClass) : Type 0 where
@@ -71,7 +71,7 @@ module _ (sign : ℕ → ByteClass) (text : List ℕ) where
   forest_ordered (list s inside others) a b h =
       omega (arith, h.0.ordered, forest_ordered inside (suc s.at) h.2.0 h.2.2, h.2.1, forest_ordered others s.end b h.3)
 
-  gap_end : (a p q : ℕ) → IsGap sign a p → IsGap sign a q → (sign p ≡ Space → ⊥) → (sign q ≡ Space → ⊥) → p ≡ q
+  gap_end : (a p q : ℕ) → IsSpaceBetween sign a p → IsSpaceBetween sign a q → (sign p ≡ Space → ⊥) → (sign q ≡ Space → ⊥) → p ≡ q
   gap_end a p q g h np nq = elim (cases_order p q) [
     | inl e ↦ e
     | inr o ↦ elim o [
@@ -117,7 +117,7 @@ module _ (sign : ℕ → ByteClass) (text : List ℕ) where
   close_is_no_space p e h = cc
 
   -- where one forest has ended no tree of the other begins
-  no_head : (a b c p : ℕ) → IsGap sign a b → IsGap sign a p → IsHead (sign p) → p < c → Ends b c → ⊥
+  no_head : (a b c p : ℕ) → IsSpaceBetween sign a b → IsSpaceBetween sign a p → IsHead (sign p) → p < c → Ends b c → ⊥
   no_head a b c p g h head before (inl e) =
       head.no_close (ap sign (gap_end a p b h g head.no_space (close_is_no_space b e.0)) ∙ e.0)
   no_head a b c p g h head before (inr e) = head.no_space (g.blank p h.ordered (omega (arith, e)))

@@ -3,7 +3,7 @@
 use Rattle.std.specs.Prelude.{ℕ, zero, suc, Bool, true, false, ◌==◌, if◌then◌else◌, List, slice_index_or}
 use Rattle.sexpr_read.specs.declared.bytes.ByteClass.{ByteClass}
 use Rattle.sexpr_read.specs.declared.bytes.ByteClass.TheVariants.{Space, Open, Close, Quote, Backslash, Plain}
-use Rattle.sexpr_read.specs.Bytes.{sign_of}
+use Rattle.sexpr_read.specs.ByteClasses.{sign_of}
 
 -- where a front of a text ends: behind nothing but space and tab of its line, behind another sign of it,
 -- in a string, in one after a backslash, or in a comment

@@ -3,12 +3,12 @@ use Rattle.std.specs.Prelude.{ℕ, suc, ◌≡◌, ◌+◌, ◌-◌, ◌<◌, �
 use Rattle.sexpr_read.specs.declared.place.Span.{Span}
 use Rattle.sexpr_read.specs.declared.bytes.ByteClass.{ByteClass}
 use Rattle.sexpr_read.specs.declared.bytes.ByteClass.TheVariants.{Space, Open, Close, Quote, Backslash}
-use Rattle.sexpr_read.specs.Bytes.{sign_of, is_word, is_itself}
+use Rattle.sexpr_read.specs.ByteClasses.{sign_of, is_word, is_itself}
 use Rattle.sexpr_read.specs.Comments.{shown}
 use Rattle.sexpr_read.specs.Tree.{Forest, none, atom, list, Tree, leaf, branch}
 
 -- there is only space from one place to another
-pub record IsGap (sign : ℕ → ByteClass) (from to : ℕ) : Type 0 where
+pub record IsSpaceBetween (sign : ℕ → ByteClass) (from to : ℕ) : Type 0 where
   pub ordered : from ≤ to
   pub blank : (i : ℕ) → from ≤ i → i < to → sign i ≡ Space
 
@@ -39,11 +39,11 @@ IsAtom sign text s true bytes = IsString sign s.at s.end × (bytes ≡ slice_ran
 
 -- the part of a text from one place to another spells these trees, with space before, between and after them
 abbrev pub SpellsForest : (ℕ → ByteClass) → List ℕ → ℕ → ℕ → Forest → Type 0
-SpellsForest sign text from to none = IsGap sign from to
+SpellsForest sign text from to none = IsSpaceBetween sign from to
 SpellsForest sign text from to (atom s q bytes others) =
-    IsGap sign from s.at × IsAtom sign text s q bytes × SpellsForest sign text s.end to others
+    IsSpaceBetween sign from s.at × IsAtom sign text s q bytes × SpellsForest sign text s.end to others
 SpellsForest sign text from to (list s inside others) =
-    IsGap sign from s.at × (sign s.at ≡ Open)
+    IsSpaceBetween sign from s.at × (sign s.at ≡ Open)
     × ((close : ℕ) × (s.end ≡ suc close) × SpellsForest sign text (suc s.at) close inside × (sign close ≡ Close))
     × SpellsForest sign text s.end to others
 

@@ -1,7 +1,7 @@
 //! The cells of a text, each a list or an atom, in the order in which they are read.
 
 ghost use Rattle.std.specs.Prelude.{◌≡◌, ◌+◌, ◌-◌, ◌<◌, ◌≤◌, ◌^◌, ◌∷◌, ◌++◌, [], IfOk, OnOk, vec_len, slice_set, slice_index_or, IsTrue, ◌↔◌};
-ghost use Rattle.sexpr_read.specs.Kinds.{kind_of, no_cell};
+ghost use Rattle.sexpr_read.specs.TreeKinds.{kind_of, no_cell};
 
 use crate::bytes::ByteClass;
 use std::alloc::{AllocError, Global};
@@ -46,7 +46,7 @@ pub(crate) struct Arena {
 
 impl Arena {
     /// No cell, and room for so many.
-    pub(crate) fn with_room(alloc: Global, cells: usize) -> Result<Arena, AllocError>
+    pub(crate) fn with_reserved(alloc: Global, cells: usize) -> Result<Arena, AllocError>
         ensures cells { IfOk result (λ arena. arena.cells.items ≡ []) }
         ensures innermost { IfOk result (λ arena. arena.innermost ≡ 0) }
     {
@@ -96,7 +96,7 @@ impl Arena {
     #[inline(always)]
     pub(crate) fn open_list(&mut self, at: usize) -> Result<(), AllocError>
         requires at { at < 2 ^ 32 }
-        requires room { vec_len self.old.cells + 1 < 2 ^ 32 }
+        requires cell_estimate { vec_len self.old.cells + 1 < 2 ^ 32 }
         ensures cells { OnOk result (self.new.cells.items
             ≡ self.old.cells.items
             ++ record { at = at; end = 0; inside = self.old.innermost } ∷ []) }

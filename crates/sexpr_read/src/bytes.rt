@@ -1,7 +1,7 @@
 //! What the bytes of a text are to the reader.
 
 ghost use Rattle.std.specs.Prelude.{◌≡◌, ◌<◌, length, slice_index_or};
-ghost use Rattle.sexpr_read.specs.Bytes.{class_of, sign_of};
+ghost use Rattle.sexpr_read.specs.ByteClasses.{class_of, sign_of};
 
 /// What a byte is to the reader. Definitions of other crates name it.
 #[derive(Clone, Copy)]
@@ -16,7 +16,7 @@ pub enum ByteClass {
 
 /// What a byte is.
 #[inline(always)]
-#[tactic(auto, unfolding(crate::specs::Bytes::class_of))]
+#[tactic(auto, unfolding(crate::specs::ByteClasses::class_of))]
 pub(crate) fn class_of(byte: u8) -> ByteClass
     ensures { result ≡ class_of byte }
 {

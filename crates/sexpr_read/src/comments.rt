@@ -2,10 +2,10 @@
 
 ghost use Rattle.std.specs.Prelude.{◌≡◌, ◌≢◌, ◌<◌, ◌≤◌, length, slice_index_or};
 ghost use Rattle.sexpr_read.specs.declared.bytes.ByteClass.TheVariants.{Space};
-ghost use Rattle.sexpr_read.specs.Bytes.{sign_of};
+ghost use Rattle.sexpr_read.specs.ByteClasses.{sign_of};
 ghost use Rattle.sexpr_read.specs.Comments.{fresh, line_at, shown, signs};
-ghost use Rattle.sexpr_read.specs.Spelling.{IsGap};
-ghost use Rattle.sexpr_read.specs.Runs.{line_of, IsInLine, IsPlain, IsSettled};
+ghost use Rattle.sexpr_read.specs.Spelling.{IsSpaceBetween};
+ghost use Rattle.sexpr_read.specs.ReaderProgress.{line_of, IsInLine, IsPlain, IsSettled};
 
 use crate::bytes::byte_at;
 use crate::runs::gap_end;
@@ -15,7 +15,7 @@ fn comment_end(text: &[u8], at: usize) -> usize
     requires within { at < length text.now }
     requires line { line_at text.now at ≡ fresh }
     requires sign { slice_index_or text.now at 0x20 ≡ 0x23 }
-    ensures gap { IsGap (shown text.now) at result }
+    ensures gap { IsSpaceBetween (shown text.now) at result }
     ensures within { result ≤ length text.now }
     ensures further { at < result }
     ensures line { result < length text.now → line_at text.now result ≡ fresh }
@@ -36,7 +36,7 @@ fn comment_end(text: &[u8], at: usize) -> usize
 fn comments_end(text: &[u8], at: usize, blank: bool) -> usize
     requires within { at ≤ length text.now }
     requires line { at < length text.now → line_at text.now at ≡ line_of blank }
-    ensures gap { IsGap (shown text.now) at result }
+    ensures gap { IsSpaceBetween (shown text.now) at result }
     ensures within { result ≤ length text.now }
     ensures plain { result < length text.now → IsPlain text.now result }
     ensures stops { result < length text.now → sign_of text.now result ≢ Space }
@@ -72,7 +72,7 @@ fn comments_end(text: &[u8], at: usize, blank: bool) -> usize
 pub(crate) fn skip(text: &[u8], at: usize, one: bool, blank: bool) -> usize
     requires within { at ≤ length text.now }
     requires line { IsInLine one text.now at blank }
-    ensures gap { IsGap (signs one text.now) at result }
+    ensures gap { IsSpaceBetween (signs one text.now) at result }
     ensures within { result ≤ length text.now }
     ensures settled { IsSettled one text.now result }
     ensures stops { result < length text.now → sign_of text.now result ≢ Space }

@@ -2,7 +2,7 @@
 
 ghost use Rattle.std.specs.Prelude.{◌≡◌, ◌<◌, ◌++◌, ◌∷◌, ◌↔◌, [], length, IsTrue, OnOk, OnErr, MatchOption, ⊤};
 ghost use Rattle.sexpr_read.specs.Tree.{unescaped, meant};
-ghost use Rattle.sexpr_read.specs.Endings.{ends_in};
+ghost use Rattle.sexpr_read.specs.TextEndings.{ends_in};
 
 use std::alloc::AllocError;
 

@@ -3,7 +3,7 @@
 ghost use Rattle.std.specs.Prelude.{◌≡◌, ◌+◌, ◌-◌, ◌≤◌, ℕ, List, length};
 ghost use Rattle.sexpr_read.specs.Tree.{Tree, span};
 ghost use Rattle.sexpr_read.specs.Spelling.{Spells, SpellsAll};
-ghost use Rattle.sexpr_read.specs.Places.{PartsStandBetween};
+ghost use Rattle.sexpr_read.specs.TreePlaces.{PartsStandBetween};
 
 /// No text spells two trees, and none two lists of forms.
 pub fn one_tree()

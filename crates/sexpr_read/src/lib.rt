@@ -8,12 +8,12 @@
 
 mod arena;
 mod bytes;
+mod cell_estimate;
 mod comments;
 mod decode;
 pub mod laws;
 mod place;
 mod reader;
-mod room;
 mod runs;
 mod view;
 

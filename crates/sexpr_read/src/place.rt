@@ -33,13 +33,13 @@ pub enum TextError {
 }
 
 impl HasReason for TextError {
-    ghost use Rattle.sexpr_read.specs.Reasons.{text_reason};
+    ghost use Rattle.sexpr_read.specs.TreeReasons.{text_reason};
 
     ghost reason_of = { text_reason };
 
     ghost depth = { 1 };
 
-    /// What it is called, its number and its byte of the text. Want of memory has no number, which is written 0, and
+    /// What it is called, its number and its byte of the text. Running out of memory has no number, which is written 0, and
     /// no place. An empty text is refused at 0.
     fn reason(&self) -> Reason {
         match self {
@@ -57,7 +57,7 @@ impl HasReason for TextError {
 impl fmt::Display for TextError {
     ghost use Rattle.std.specs.Prelude.{Some};
     ghost use Rattle.plain_types.specs.Reasons.{written};
-    ghost use Rattle.sexpr_read.specs.Reasons.{text_reason};
+    ghost use Rattle.sexpr_read.specs.TreeReasons.{text_reason};
 
     ghost output = { λ e. Some (written (text_reason e)) };
 

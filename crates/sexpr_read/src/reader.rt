@@ -5,18 +5,18 @@ ghost use Rattle.plain_types.specs.Limits.{IsReadable};
 ghost use Rattle.simdutf8.specs.Error.{valid_up_to};
 ghost use Rattle.sexpr_read.specs.Tree.{Tree, levels};
 ghost use Rattle.sexpr_read.specs.declared.bytes.ByteClass.TheVariants.{Open};
-ghost use Rattle.sexpr_read.specs.Bytes.{sign_of};
+ghost use Rattle.sexpr_read.specs.ByteClasses.{sign_of};
 ghost use Rattle.sexpr_read.specs.Comments.{shown, signs};
-ghost use Rattle.sexpr_read.specs.Spelling.{IsGap, Spells, SpellsAll};
-ghost use Rattle.sexpr_read.specs.Refusals.{outside, is_blank_before, whole_fault, refusal_of_one, refusal_of_all, IsOfForms};
-ghost use Rattle.sexpr_read.specs.Runs.{Stands, outer_levels, IsInLine, TreesAreRead};
-ghost use Rattle.sexpr_read.specs.Views.{root_of};
+ghost use Rattle.sexpr_read.specs.Spelling.{IsSpaceBetween, Spells, SpellsAll};
+ghost use Rattle.sexpr_read.specs.TreeRefusals.{outside, is_blank_before, whole_fault, refusal_of_one, refusal_of_all, IsOfForms};
+ghost use Rattle.sexpr_read.specs.ReaderProgress.{Stands, outer_levels, IsInLine, TreesAreRead};
+ghost use Rattle.sexpr_read.specs.TreeViews.{root_of};
 
 use crate::arena::Arena;
 use crate::bytes::{ByteClass, sign_at};
+use crate::cell_estimate::about_cells;
 use crate::comments::skip;
 use crate::place::{Span, TextError};
-use crate::room::about_cells;
 use crate::runs::{gap_end, string_end, word_end};
 use crate::view::Doc;
 use simdutf8::compat::{Utf8Error, from_utf8};
@@ -86,7 +86,7 @@ fn read_forest(text: &[u8], from: usize, one: bool, arena: &mut Arena) -> Result
 /// Where the one list of a text begins.
 fn list_start(text: &[u8]) -> Result<usize, TextError>
     requires { IsReadable text.now }
-    ensures gap { IfOk result (λ at. IsGap (sign_of text.now) 0 at) }
+    ensures gap { IfOk result (λ at. IsSpaceBetween (sign_of text.now) 0 at) }
     ensures bracket { IfOk result (λ at. sign_of text.now at ≡ Open) }
     ensures within { IfOk result (λ at. at < length text.now) }
     ensures err { IfErr result
@@ -109,7 +109,7 @@ fn check_rest(text: &[u8], end: usize) -> Result<(), TextError>
     requires within { end ≤ length text.now }
     requires stands { Stands true (sign_of text.now) end (outside 0) }
     requires seen { is_blank_before (sign_of text.now) end ≡ false }
-    ensures ok { IfOk result (λ _. IsGap (sign_of text.now) end (length text.now)) }
+    ensures ok { IfOk result (λ _. IsSpaceBetween (sign_of text.now) end (length text.now)) }
     ensures err { IfErr result
         (λ e. whole_fault true (sign_of text.now) (length text.now) ≡ Some e) }
 {
@@ -143,7 +143,7 @@ fn read_one<'t>(alloc: Global, text: &'t [u8]) -> Result<Doc<'t>, TextError>
         ⊎ (whole_fault true (sign_of text.now) (length text.now) ≡ Some e)) }
 {
     let start = list_start(text)?;
-    let mut arena = Arena::with_room(alloc, about_cells(text))?;
+    let mut arena = Arena::with_reserved(alloc, about_cells(text))?;
     let close = read_forest(text, start + 1, true, &mut arena)?;
     if close == text.len() {
         return Err(TextError::EndInside { at: close as u32 });
@@ -188,7 +188,7 @@ fn read_all<'t>(alloc: Global, text: &'t [u8]) -> Result<Doc<'t>, TextError>
     ensures err { IfErr result (λ e. (e ≡ TextError.OutOfMemory)
         ⊎ (whole_fault false (shown text.now) (length text.now) ≡ Some e)) }
 {
-    let mut arena = Arena::with_room(alloc, about_cells(text))?;
+    let mut arena = Arena::with_reserved(alloc, about_cells(text))?;
     let stop = read_forest(text, 0, false, &mut arena)?;
     if stop != text.len() {
         return Err(TextError::CloseWithoutOpen { at: stop as u32 });

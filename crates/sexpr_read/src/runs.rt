@@ -2,9 +2,9 @@
 
 ghost use Rattle.std.specs.Prelude.{◌≡◌, ◌≢◌, ◌<◌, ◌≤◌, length, true, MatchOption, ⊤};
 ghost use Rattle.sexpr_read.specs.declared.bytes.ByteClass.TheVariants.{Space, Quote};
-ghost use Rattle.sexpr_read.specs.Bytes.{sign_of, is_word};
-ghost use Rattle.sexpr_read.specs.Spelling.{IsGap, IsWord, IsContent};
-ghost use Rattle.sexpr_read.specs.Runs.{IsUnclosed};
+ghost use Rattle.sexpr_read.specs.ByteClasses.{sign_of, is_word};
+ghost use Rattle.sexpr_read.specs.Spelling.{IsSpaceBetween, IsWord, IsContent};
+ghost use Rattle.sexpr_read.specs.ReaderProgress.{IsUnclosed};
 
 use crate::bytes::{ByteClass, sign_at};
 
@@ -12,7 +12,7 @@ use crate::bytes::{ByteClass, sign_at};
 #[inline(always)]
 pub(crate) fn gap_end(text: &[u8], at: usize) -> usize
     requires { at ≤ length text.now }
-    ensures gap { IsGap (sign_of text.now) at result }
+    ensures gap { IsSpaceBetween (sign_of text.now) at result }
     ensures within { result ≤ length text.now }
     ensures stops { result < length text.now → sign_of text.now result ≢ Space }
 {

@@ -2,8 +2,8 @@
 
 ghost use Rattle.std.specs.Prelude.{◌≡◌, ◌↔◌, IsTrue};
 ghost use Rattle.std.proofs.Props.{props};
-ghost use Rattle.sexpr_read.specs.Cells.{cells_of, forest_of, tree_at, LiesInText, ArePlaced, ArePlaced-prop};
-ghost use Rattle.sexpr_read.specs.Texts.{AreTexts, AreTexts-prop, HasTexts, HasTexts-prop};
+ghost use Rattle.sexpr_read.specs.ForestCells.{cells_of, forest_of, tree_at, LiesInText, ArePlaced, ArePlaced-prop};
+ghost use Rattle.sexpr_read.specs.AtomTexts.{AreTexts, AreTexts-prop, HasTexts, HasTexts-prop};
 ghost use Rattle.sexpr_read.specs.declared.arena.TreeKind.TheVariants.{List as Nested};
 
 use crate::arena::{Cell, TreeKind, kind_of};
@@ -24,10 +24,10 @@ pub struct Doc<'t> {
     ghost texts: { AreTexts (forest_of text.now cells.items) } by { AreTexts-prop (forest_of text.now cells.items) },
 }
 
-#[tactic(auto, unfolding(crate::specs::Views::root_of, crate::specs::Views::tree_of))]
+#[tactic(auto, unfolding(crate::specs::TreeViews::root_of, crate::specs::TreeViews::tree_of))]
 impl<'t> Doc<'t> {
     ghost use Rattle.std.specs.Prelude.{◌≡◌};
-    ghost use Rattle.sexpr_read.specs.Views.{root_of, tree_of};
+    ghost use Rattle.sexpr_read.specs.TreeViews.{root_of, tree_of};
 
     /// The one list, or the list of all forms.
     pub fn root<'d>(&'d self) -> Node<'d, 't>
@@ -55,12 +55,12 @@ pub struct Node<'d, 't> {
     ghost texts: { HasTexts (tree_at text.now kind span cells.now) } by { HasTexts-prop (tree_at text.now kind span cells.now) },
 }
 
-#[tactic(auto, unfolding(crate::specs::Views::tree_of, crate::specs::Views::trees_left))]
+#[tactic(auto, unfolding(crate::specs::TreeViews::tree_of, crate::specs::TreeViews::trees_left))]
 impl<'d, 't> Node<'d, 't> {
     ghost use Rattle.std.specs.Prelude.{◌≡◌, ◌++◌, ◌↔◌, ◌<◌, ◌^◌, [], length, IsTrue, Some, option_copied, unwrap_or, IfSome, IsUtf8, OnOk, OnErr};
-    ghost use Rattle.sexpr_read.specs.Endings.{ends_in};
+    ghost use Rattle.sexpr_read.specs.TextEndings.{ends_in};
     ghost use Rattle.sexpr_read.specs.Tree.{is_list, content, quoted, span, parts, value, word_of};
-    ghost use Rattle.sexpr_read.specs.Views.{tree_of, trees_left};
+    ghost use Rattle.sexpr_read.specs.TreeViews.{tree_of, trees_left};
 
     /// Whether it is a list.
     pub fn is_list(self) -> bool
@@ -103,7 +103,7 @@ impl<'d, 't> Node<'d, 't> {
         self.span
     }
 
-    #[tactic(auto, unfolding(crate::specs::Views::tree_of, crate::specs::Views::trees_left, crate::specs::Cells::forest_of))]
+    #[tactic(auto, unfolding(crate::specs::TreeViews::tree_of, crate::specs::TreeViews::trees_left, crate::specs::ForestCells::forest_of))]
     /// What stands in a list, in the order of the text. An atom has no children.
     pub fn children(self) -> Children<'d, 't>
         ensures given { trees_left result ≡ parts (tree_of self.entry) }
@@ -207,7 +207,7 @@ pub struct Children<'d, 't> {
 
 impl<'d, 't> Iterator for Children<'d, 't> {
     ghost use Rattle.std.specs.Iterator.{YieldsFirstBy, item_count};
-    ghost use Rattle.sexpr_read.specs.Views.{tree_of, trees_left};
+    ghost use Rattle.sexpr_read.specs.TreeViews.{tree_of, trees_left};
 
     type Item = Node<'d, 't>;
 

@@ -4,7 +4,7 @@ use Rattle.std.proofs.lemmas.List.Sums.{sum_by_push}
 use Rattle.std.proofs.lemmas.List.{length-map}
 use Rattle.claim_board.specs.DealMachine.{sum_below, times, once_below}
 use Rattle.claim_board.proofs.Machine.{once_is}
-use Rattle.tile_pool.specs.Answers.{AreValues, AreBatches}
+use Rattle.tile_pool.specs.NumberedValues.{AreValues, AreBatches}
 use Rattle.steal_pool.proofs.Related.{each_push, map_push}
 use Rattle.steal_pool.proofs.Workers.{sum_map}
 

@@ -8,10 +8,10 @@ use Rattle.steal_pool.specs.declared.rule.Hand.{Hand}
 use Rattle.steal_pool.specs.declared.rule.Line.{Line}
 use Rattle.steal_pool.specs.declared.member.Member.{Member}
 use Rattle.steal_pool.specs.declared.rule.Fair.{Fair}
-use Rattle.tile_pool.specs.Answers.{AreValues, AreBatches}
+use Rattle.tile_pool.specs.NumberedValues.{AreValues, AreBatches}
 use Rattle.tile_pool.proofs.Batches.{none_of}
 use Rattle.steal_pool.specs.Seats.{IsOwner, AreOwners, AreLines, AreUnused, put_of, taken_of, taken_with, pushed_by, taken_by}
-use Rattle.steal_pool.specs.Members.{IsReady, HaveRun}
+use Rattle.steal_pool.specs.PoolMembers.{IsReady, HaveRun}
 use Rattle.steal_pool.proofs.Related.{entry_at}
 
 -- a sum over two lists that agree place by place

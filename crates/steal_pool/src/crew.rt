@@ -1,8 +1,8 @@
 //! Workers, and what they leave.
 
 ghost use Rattle.std.specs.Prelude.{◌≡◌, ℕ, ◌+◌, ◌-◌, ◌<◌, ◌≤◌, [], false, length, map, sum_by, All, IfOk};
-ghost use Rattle.tile_pool.specs.Answers.{AreBatches};
-ghost use Rattle.steal_pool.specs.Members.{IsReady, HaveRun};
+ghost use Rattle.tile_pool.specs.NumberedValues.{AreBatches};
+ghost use Rattle.steal_pool.specs.PoolMembers.{IsReady, HaveRun};
 ghost use Rattle.steal_pool.specs.Seats.{AreOwners, AreLines, AreUnused, AreGiven, pushed_by, taken_by, taken_with};
 
 use crate::job::Job;
@@ -110,7 +110,8 @@ fn run_members<R: Threads + Sync, T: TileWork, G: Gate>(
     requires members { All (IsReady
         (T.gives job.now.work.now) job.now.tiles job.now.others.now) crew.items }
     ensures long { length result.items ≡ length crew.items }
-    ensures run { HaveRun (T.gives job.now.work.now) job.now.tiles job.now.others.now crew.items result.items }
+    ensures run { HaveRun (T.gives job.now.work.now) job.now.tiles job.now.others.now crew.items
+        result.items }
 {
     run_all(rt, job, crew.as_mut_slice());
     crew

@@ -3,8 +3,8 @@
 ghost use Rattle.std.specs.Prelude.{◌≡◌, ℕ, ◌+◌, ◌<◌, ◌≤◌, length, sum_by, All, IfSome, IfNone};
 ghost use Rattle.crossbeam_deque.specs.Handles.{worker_view, worker_flavor, worker_deque};
 ghost use Rattle.steal_pool.specs.Seats.{AreLines, taken_with, taken_of};
-ghost use Rattle.steal_pool.specs.Shares.{IsShare};
-ghost use Rattle.steal_pool.specs.Members.{IsReady, HasRun, HaveRun};
+ghost use Rattle.steal_pool.specs.SeatValues.{HasTakenValues};
+ghost use Rattle.steal_pool.specs.PoolMembers.{IsReady, HasRun, HaveRun};
 
 use crate::job::Job;
 use crate::rule::{Line, Other, Own, Takes};
@@ -20,17 +20,17 @@ fn take_own<T: TileWork, G: Gate>(job: &Job<'_, T, G>, own: &mut Own, share: &mu
     requires count { job.now.tiles ≤ T.count job.now.work.now }
     requires own { (worker_flavor own.old ≡ 0) × (0 < (worker_view own.old).parts)
         × ((worker_view own.old).limit ≤ job.now.tiles) }
-    requires values { IsShare (T.gives job.now.work.now) share.old }
+    requires values { HasTakenValues (T.gives job.now.work.now) share.old }
     ensures own { (worker_deque own.new ≡ worker_deque own.old) × (worker_flavor own.new ≡ 0)
         × ((worker_view own.new).parts ≡ (worker_view own.old).parts)
         × ((worker_view own.new).limit ≡ (worker_view own.old).limit)
         × ((worker_view own.new).put ≡ (worker_view own.old).put) }
     ensures kept { (h : ℕ → ℕ) → sum_by h share.new.hand.items + taken_of h own.old
         ≡ sum_by h share.old.hand.items + taken_of h own.new }
-    ensures values { IsShare (T.gives job.now.work.now) share.new }
+    ensures values { HasTakenValues (T.gives job.now.work.now) share.new }
 {
     for _ in 0..job.tiles {
-        if !share.has_room() {
+        if !share.has_capacity() {
             break;
         }
         match own.pop_as::<Takes>() {
@@ -66,15 +66,15 @@ fn sweep<T: TileWork, G: Gate>(
     requires ready { T.ready job.now.work.now }
     requires count { job.now.tiles ≤ T.count job.now.work.now }
     requires lines { AreLines job.now.tiles job.now.others.now lines.old }
-    requires values { IsShare (T.gives job.now.work.now) share.old }
+    requires values { HasTakenValues (T.gives job.now.work.now) share.old }
     ensures lines { AreLines job.now.tiles job.now.others.now lines.new }
     ensures kept { (h : ℕ → ℕ) → sum_by h share.new.hand.items + taken_with h lines.old
         ≡ sum_by h share.old.hand.items + taken_with h lines.new }
-    ensures values { IsShare (T.gives job.now.work.now) share.new }
+    ensures values { HasTakenValues (T.gives job.now.work.now) share.new }
 {
     let mut gave = false;
     for at in 0..job.others.len() {
-        if at == seat || !share.has_room() {
+        if at == seat || !share.has_capacity() {
             continue;
         }
         if let Some(number) = steal_one(job.others, lines, at, job.tiles) {
@@ -95,11 +95,11 @@ fn steal_all<T: TileWork, G: Gate>(
     requires ready { T.ready job.now.work.now }
     requires count { job.now.tiles ≤ T.count job.now.work.now }
     requires lines { AreLines job.now.tiles job.now.others.now lines.old }
-    requires values { IsShare (T.gives job.now.work.now) share.old }
+    requires values { HasTakenValues (T.gives job.now.work.now) share.old }
     ensures lines { AreLines job.now.tiles job.now.others.now lines.new }
     ensures kept { (h : ℕ → ℕ) → sum_by h share.new.hand.items + taken_with h lines.old
         ≡ sum_by h share.old.hand.items + taken_with h lines.new }
-    ensures values { IsShare (T.gives job.now.work.now) share.new }
+    ensures values { HasTakenValues (T.gives job.now.work.now) share.new }
 {
     let mut nothing = 0u8;
     for _ in 0..job.tiles.saturating_add(2) {
@@ -125,7 +125,8 @@ fn run_member<T: TileWork, G: Gate>(job: &Job<'_, T, G>, member: &mut Member<T::
     requires ready { T.ready job.now.work.now }
     requires count { job.now.tiles ≤ T.count job.now.work.now }
     requires member { IsReady (T.gives job.now.work.now) job.now.tiles job.now.others.now member.old }
-    ensures { HasRun (T.gives job.now.work.now) job.now.tiles job.now.others.now member.old member.new }
+    ensures { HasRun (T.gives job.now.work.now) job.now.tiles job.now.others.now member.old
+        member.new }
 {
     take_own(job, &mut member.own, &mut member.share);
     let seat = member.seat;
@@ -144,7 +145,8 @@ pub(crate) fn run_all<R: Threads + Sync, T: TileWork, G: Gate>(
     requires some { 0 < length members.old }
     requires members { All (λ m. IsReady
         (T.gives job.now.work.now) job.now.tiles job.now.others.now m) members.old }
-    ensures { HaveRun (T.gives job.now.work.now) job.now.tiles job.now.others.now members.old members.new }
+    ensures { HaveRun (T.gives job.now.work.now) job.now.tiles job.now.others.now members.old
+        members.new }
 {
     let threads = members.len();
     thread::for_each_mut(
@@ -154,7 +156,8 @@ pub(crate) fn run_all<R: Threads + Sync, T: TileWork, G: Gate>(
         &|_: usize, member: &mut Member<T::Out>|
             requires { T.ready job.now.work.now × (job.now.tiles ≤ T.count job.now.work.now)
                 × IsReady (T.gives job.now.work.now) job.now.tiles job.now.others.now member.now }
-            ensures { HasRun (T.gives job.entry.now.work.now) job.entry.now.tiles job.entry.now.others.now member.entry.now member.exit.now }
+            ensures { HasRun (T.gives job.entry.now.work.now) job.entry.now.tiles
+                job.entry.now.others.now member.entry.now member.exit.now }
         { run_member(job, member) },
     );
 }

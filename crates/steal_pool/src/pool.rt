@@ -3,9 +3,9 @@
 ghost use Rattle.std.specs.Prelude.{◌≡◌, ℕ, ◌+◌, ◌-◌, ◌<◌, ◌≤◌, false, length, map, sum_by, All, IfOk};
 ghost use Rattle.std.specs.Vec.{vec_len};
 ghost use Rattle.claim_board.specs.DealMachine.{sum_below, times, once_below};
-ghost use Rattle.tile_pool.specs.Answers.{AreAnswers, AreBatches, AreFull};
+ghost use Rattle.tile_pool.specs.NumberedValues.{AreAnswers, AreBatches, AreFull};
 ghost use Rattle.steal_pool.specs.Seats.{AreOwners, AreUnused, AreGiven, pushed_by, taken_by};
-ghost use Rattle.steal_pool.specs.Views.{stolen_tiles, stolen_hands};
+ghost use Rattle.steal_pool.specs.StolenViews.{stolen_tiles, stolen_hands};
 
 use crate::crew::run_crew;
 use crate::deal::{Dealing, deal_out};
@@ -87,7 +87,7 @@ fn gathered<T: TileWork>(
 /// Tests each number below `tiles`, which is at most the count of the work and at most 15,625, by 1 to 64 workers that have deques of
 /// their own and steal from each other's. Worker w is given the numbers that leave w over when they are divided by the number of
 /// workers. The answers stand in the order of the numbers, and beside them it is told which seat took which numbers. A taker calls
-/// `before`, tests and calls `after`; after a want of memory it takes on without testing. Only want of memory refuses the call.
+/// `before`, tests and calls `after`; after running out of memory it takes on without testing. Only running out of memory refuses the call.
 pub fn run_stolen<R: Threads + Sync, T: TileWork, G: Gate>(
     rt: &R,
     alloc: Global,

@@ -4,9 +4,9 @@ ghost use Rattle.std.specs.Prelude.{◌≡◌, ℕ, ◌+◌, ◌-◌, ◌≤◌,
 ghost use Rattle.std.specs.Vec.{vec_len};
 ghost use Rattle.claim_board.specs.DealMachine.{sum_below, times, once_below};
 ghost use Rattle.crossbeam_deque.specs.Handles.{worker_view, worker_flavor};
-ghost use Rattle.tile_pool.specs.Answers.{AreBatches};
+ghost use Rattle.tile_pool.specs.NumberedValues.{AreBatches};
 ghost use Rattle.steal_pool.specs.Seats.{AreOwners, AreLines, taken_with, put_of, taken_of, pushed_by, taken_by};
-ghost use Rattle.steal_pool.specs.Shares.{IsShare};
+ghost use Rattle.steal_pool.specs.SeatValues.{HasTakenValues};
 
 use crate::crew::Left;
 use crate::deal::all_back;
@@ -26,11 +26,11 @@ fn drain<T: TileWork, G: Gate>(
     requires count { job.now.tiles ≤ T.count job.now.work.now }
     requires own { (worker_flavor own ≡ 0) × ((worker_view own).parts ≡ 1024)
         × ((worker_view own).limit ≤ job.now.tiles) }
-    requires values { IsShare (T.gives job.now.work.now) share.old }
+    requires values { HasTakenValues (T.gives job.now.work.now) share.old }
     ensures kept { IfOk result (λ _. (h : ℕ → ℕ)
         → sum_by h share.new.hand.items + taken_of h own
         ≡ sum_by h share.old.hand.items + put_of h own) }
-    ensures values { IfOk result (λ _. IsShare (T.gives job.now.work.now) share.new) }
+    ensures values { IfOk result (λ _. HasTakenValues (T.gives job.now.work.now) share.new) }
 {
     while let Some(number) = own.pop_as::<Takes>() {
         share.hand.reserve(1)?;
@@ -48,11 +48,11 @@ fn take_rest<T: TileWork, G: Gate>(
     requires ready { T.ready job.now.work.now }
     requires count { job.now.tiles ≤ T.count job.now.work.now }
     requires owners { AreOwners job.now.tiles 1024 job.now.others.now owners.items }
-    requires values { IsShare (T.gives job.now.work.now) share.old }
+    requires values { HasTakenValues (T.gives job.now.work.now) share.old }
     ensures kept { IfOk result (λ _. (h : ℕ → ℕ)
         → sum_by h share.new.hand.items + taken_by h owners.items
         ≡ sum_by h share.old.hand.items + pushed_by h owners.items) }
-    ensures values { IfOk result (λ _. IsShare (T.gives job.now.work.now) share.new) }
+    ensures values { IfOk result (λ _. HasTakenValues (T.gives job.now.work.now) share.new) }
 {
     while let Some(own) = owners.pop() {
         drain(job, own, share)?;

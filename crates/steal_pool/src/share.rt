@@ -2,7 +2,7 @@
 
 ghost use Rattle.std.specs.Prelude.{◌≡◌, ◌<◌, ◌≤◌, ◌∷◌, ◌++◌, [], true, false, IfOk};
 ghost use Rattle.std.specs.Vec.{vec_len, vec_capacity};
-ghost use Rattle.steal_pool.specs.Shares.{IsShare};
+ghost use Rattle.steal_pool.specs.SeatValues.{HasTakenValues};
 
 use crate::job::Job;
 use std::alloc::{AllocError, Global};
@@ -30,14 +30,14 @@ impl<X: Drop> Share<X> {
     }
 
     /// Whether the hand takes one more number without asking for memory.
-    pub(crate) fn has_room(&self) -> bool
+    pub(crate) fn has_capacity(&self) -> bool
         ensures { result ≡ true → vec_len self.now.hand < vec_capacity self.now.hand }
     {
         self.hand.len() < self.hand.capacity()
     }
 }
 
-/// Takes a number to the end of the hand and tests it. After a want of memory it is taken and not tested.
+/// Takes a number to the end of the hand and tests it. After running out of memory it is taken and not tested.
 pub(crate) fn take<T: TileWork, G: Gate>(
     job: &Job<'_, T, G>,
     number: u32,
@@ -46,8 +46,8 @@ pub(crate) fn take<T: TileWork, G: Gate>(
     requires ready { T.ready job.now.work.now }
     requires number { number < T.count job.now.work.now }
     requires room { vec_len share.old.hand < vec_capacity share.old.hand }
-    requires values { IsShare (T.gives job.now.work.now) share.old }
-    ensures values { IsShare (T.gives job.now.work.now) share.new }
+    requires values { HasTakenValues (T.gives job.now.work.now) share.old }
+    ensures values { HasTakenValues (T.gives job.now.work.now) share.new }
     ensures hand { share.new.hand.items ≡ share.old.hand.items ++ number ∷ [] }
     ensures room { vec_capacity share.new.hand ≡ vec_capacity share.old.hand }
 {

@@ -3,9 +3,9 @@
 ghost use Rattle.std.specs.Prelude.{◌≡◌, ◌+◌, ◌<◌, ◌≤◌, length, IfOk};
 ghost use Rattle.std.specs.List.{AllZip};
 ghost use Rattle.std.specs.List.Sorted.{IsStrictlyIncreasing};
-ghost use Rattle.pair_check.specs.Views.{checked_by, IsWholeView};
-ghost use Rattle.row_check.specs.Tiles.{IsIndexOf, AreRowsOfTile};
-ghost use Rattle.steal_pool.specs.Views.{stolen_tiles, stolen_hands};
+ghost use Rattle.pair_check.specs.CheckViews.{checked_by, IsWholeView};
+ghost use Rattle.row_check.specs.RowsOfTile.{IsIndexOf, AreRowsOfTile};
+ghost use Rattle.steal_pool.specs.StolenViews.{stolen_tiles, stolen_hands};
 
 use kept_rows::TileRows;
 use std::alloc::{AllocError, Global};
@@ -22,7 +22,7 @@ pub(crate) struct StolenTiles {
 }
 
 /// The rows of each of the tiles with an id that changed, in the order of the tiles. There are 1 to 64 workers and at most 15,625
-/// tiles. Only want of memory refuses it.
+/// tiles. Only running out of memory refuses it.
 pub(crate) fn steal_tiles<R: Threads + Sync, G: Gate>(
     rt: &R,
     alloc: Global,
@@ -35,8 +35,12 @@ pub(crate) fn steal_tiles<R: Threads + Sync, G: Gate>(
     requires index { IsIndexOf (checked_by work.view) work.index.now }
     requires changed { IsStrictlyIncreasing work.changed.now }
     requires few { length work.tiles.now ≤ 15625 }
-    ensures rows { IfOk result (λ r. AllZip (λ tile batch. AreRowsOfTile (checked_by work.entry.view) work.entry.index.now tile work.entry.changed.now batch) work.entry.tiles.now r.batches.items) }
-    ensures hands { IfOk result (λ r. (stolen_tiles r.stolen ≡ length work.entry.tiles.now) × (length (stolen_hands r.stolen) ≡ workers + 1)) }
+    ensures rows { IfOk result (λ r.
+        AllZip (λ tile batch.
+        AreRowsOfTile (checked_by work.entry.view) work.entry.index.now tile work.entry.changed.now
+        batch) work.entry.tiles.now r.batches.items) }
+    ensures hands { IfOk result (λ r. (stolen_tiles r.stolen ≡ length work.entry.tiles.now)
+        × (length (stolen_hands r.stolen) ≡ workers + 1)) }
 {
     let count = work.tiles.len() as u32;
     let (batches, stolen) = run_stolen(rt, alloc, workers, count, &work, gate)?;

@@ -1,10 +1,10 @@
 //! All rows of a board.
 
 ghost use Rattle.std.specs.Prelude.{◌≡◌, ◌+◌, ◌<◌, ◌≤◌, length, IfOk};
-ghost use Rattle.pair_check.specs.Views.{checked_by, IsWholeView};
+ghost use Rattle.pair_check.specs.CheckViews.{checked_by, IsWholeView};
 ghost use Rattle.pair_check.specs.Rows.{AreRows};
-ghost use Rattle.row_check.specs.Tiles.{IsIndexOf};
-ghost use Rattle.steal_pool.specs.Views.{stolen_hands};
+ghost use Rattle.row_check.specs.RowsOfTile.{IsIndexOf};
+ghost use Rattle.steal_pool.specs.StolenViews.{stolen_hands};
 ghost use Rattle.stolen_rows.specs.Unruled.{unruled};
 
 use crate::stealing::{StolenTiles, let_go, steal_tiles};
@@ -12,7 +12,7 @@ use board_index::index_of;
 use board_items::Board;
 use box_index::TileIndex;
 use item_facts::{all_facts, reach};
-use kept_rows::rows_anew;
+use kept_rows::whole_board_rows;
 use net_class::Classes;
 use row_check::{CheckView, Row, ids_of};
 use std::alloc::{AllocError, Global};
@@ -45,13 +45,13 @@ fn steal_all<R: Threads + Sync, G: Gate>(
         changed: &ids,
     };
     let StolenTiles { batches, stolen } = steal_tiles(rt, alloc, workers, work, gate)?;
-    let rows = rows_anew(alloc, &view, index, &ids, &tiles, &batches)?;
+    let rows = whole_board_rows(alloc, &view, index, &ids, &tiles, &batches)?;
     Ok((rows, stolen))
 }
 
 /// All rows of the board under these classes and no rules, in order. Each tile that holds an item is tested by one of `workers` workers,
 /// from 1 to 64, who have deques of their own and steal from each other's; the gate is called before and after each test. What they
-/// steal changes no row. Only want of memory refuses it.
+/// steal changes no row. Only running out of memory refuses it.
 pub fn rows_by_stealing<R: Threads + Sync, G: Gate>(
     rt: &R,
     alloc: Global,

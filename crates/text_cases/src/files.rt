@@ -30,7 +30,7 @@ pub fn name_of(alloc: Global, written: &str) -> Result<Name, Fault> {
     Ok(Name::from_slice(alloc, text.as_bytes())?)
 }
 
-/// The same, from bytes that are handed over.
+/// The name of a file that is written like this, made of bytes that are handed over.
 fn owned_name(alloc: Global, written: &str) -> Result<Name, Fault> {
     let bytes = text_of(alloc, written)?;
     let text = std::str::from_utf8(&bytes).ok().ok_or(Fault::NotUtf8)?;

@@ -5,7 +5,7 @@ use Rattle.std.proofs.lemmas.Bool.Decides.{nat_tests}
 use Rattle.std.proofs.lemmas.List.Sums.{sum_by-cons, get_or-le-sum_by}
 use native.Mathlib.Decide.{ℕ_discrete}
 use Rattle.claim_board.specs.DealMachine.{times, once_below}
-use Rattle.tile_pool.specs.Answers.{AreAnswers, AreValues}
+use Rattle.tile_pool.specs.NumberedValues.{AreAnswers, AreValues}
 
 -- ---- where a number stands
 abbrev Stands : ℕ → List ℕ → Type 0

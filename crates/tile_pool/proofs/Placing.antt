@@ -7,7 +7,7 @@ use Rattle.std.proofs.Math.ListN.{length-set, length-replicate, get_or-append}
 use Rattle.std.proofs.Math.Seq.{drop-cons, get_or-append_seam}
 use Rattle.std.proofs.lemmas.List.Sums.{sum_by-cons}
 use Rattle.claim_board.specs.DealMachine.{times, once_below}
-use Rattle.tile_pool.specs.Answers.{AreAnswers, AreValues, AreBatches, Slot, AreFull}
+use Rattle.tile_pool.specs.NumberedValues.{AreAnswers, AreValues, AreBatches, Slot, AreFull}
 
 -- a value that is put at the number of a place
 pub put_at : {X : Type 0} (hand : List ℕ) (slots later : List (Option X)) (at n : ℕ) (v : X) → later ≡ set slots (get_or hand at 0) (Some v) → at ≡ n → later ≡ set slots (get_or hand n 0) (Some v)

@@ -1,8 +1,8 @@
 -- A worker before and after its run.
 use Rattle.std.specs.Prelude.{◌≡◌, ℕ, ◌<◌, true, false, List, [], length, slice_index_or}
 use Rattle.claim_board.specs.declared.deal.Deal.{Deal}
-use Rattle.claim_board.specs.Views.{IsSeatOf, seat_number, seat_hand, seat_done}
-use Rattle.tile_pool.specs.Answers.{AreValues}
+use Rattle.claim_board.specs.DealViews.{IsSeatOf, seat_number, seat_hand, seat_done}
+use Rattle.tile_pool.specs.NumberedValues.{AreValues}
 use Rattle.tile_pool.specs.declared.pool.Worker.{Worker}
 
 -- it was given nothing yet

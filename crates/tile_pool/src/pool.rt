@@ -2,8 +2,8 @@
 
 ghost use Rattle.std.specs.Prelude.{◌≡◌, ◌<◌, ◌≤◌, [], ◌∷◌, ◌++◌, true, false, length, map, All, IfOk, replicate, None};
 ghost use Rattle.std.specs.Vec.{vec_len, vec_capacity};
-ghost use Rattle.claim_board.specs.Views.{IsSeatOf, AreSeatsOf, deal_tiles, deal_seats, seat_number, seat_hand, seat_done, dealt_tiles, dealt_seats};
-ghost use Rattle.tile_pool.specs.Answers.{AreAnswers, AreValues, AreBatches};
+ghost use Rattle.claim_board.specs.DealViews.{IsSeatOf, AreSeatsOf, deal_tiles, deal_seats, seat_number, seat_hand, seat_done, dealt_tiles, dealt_seats};
+ghost use Rattle.tile_pool.specs.NumberedValues.{AreAnswers, AreValues, AreBatches};
 ghost use Rattle.tile_pool.specs.Crews.{IsFresh, IsDone, HasRun};
 
 use crate::gate::Gate;
@@ -22,7 +22,7 @@ struct Worker<X> {
     failed: bool,
 }
 
-/// Draws numbers and tests each, until none is left. After a want of memory it draws on and tests no more.
+/// Draws numbers and tests each, until none is left. After running out of memory it draws on and tests no more.
 fn draw_all<T: TileWork, G: Gate>(
     alloc: Global,
     deal: &Deal,
@@ -263,8 +263,8 @@ fn played<R: Threads + Sync, T: TileWork, G: Gate>(
 
 /// Tests each number below `tiles`, which is at most the count of the work and at most 15,625, by 1 to 64 workers that claim numbers
 /// side by side. The answers stand in the order of the numbers, and beside them it is told which worker was given which numbers. A
-/// worker calls `before`, tests and calls `after`; after a want of memory it draws on without testing. Only want of memory refuses
-/// the call, and nothing waits. At most as many threads start as there are numbers, so one number starts none.
+/// worker calls `before`, tests and calls `after`; after running out of memory it draws on without testing. Only running out of memory
+/// refuses the call, and nothing waits. At most as many threads start as there are numbers, so one number starts none.
 pub fn run_tiles<R: Threads + Sync, T: TileWork, G: Gate>(
     rt: &R,
     alloc: Global,

@@ -1,8 +1,8 @@
 -- What the work of tiles gives.
 use Rattle.std.specs.Prelude.{ℕ, List, slice_index}
 use Rattle.pair_check.specs.PlainRow.{PlainRow}
-use Rattle.pair_check.specs.Views.{checked_by}
-use Rattle.row_check.specs.Tiles.{AreRowsOfTile}
+use Rattle.pair_check.specs.CheckViews.{checked_by}
+use Rattle.row_check.specs.RowsOfTile.{AreRowsOfTile}
 use Rattle.tile_rows.specs.declared.work.Tiles.{Tiles}
 
 -- the rows of the tile of this number, with an id that changed

@@ -2,7 +2,7 @@
 
 ghost use Rattle.std.specs.Prelude.{◌≡◌, ℕ, List};
 ghost use Rattle.pair_check.specs.PlainRow.{PlainRow};
-ghost use Rattle.tile_pool.specs.Answers.{AreAnswers};
+ghost use Rattle.tile_pool.specs.NumberedValues.{AreAnswers};
 ghost use Rattle.tile_rows.specs.Work.{AreRowsAt};
 
 use crate::work::Tiles;
@@ -10,7 +10,9 @@ use tile_pool::laws::one_list_of_answers;
 
 /// The work has one list of answers: so workers make the same, however many they are.
 pub fn one_value(work: &Tiles<'_>)
-    ensures { (count : ℕ) (answers others : List (List PlainRow)) → AreAnswers (AreRowsAt work.now) count answers → AreAnswers (AreRowsAt work.now) count others → answers ≡ others }
+    ensures { (count : ℕ) (answers others : List (List PlainRow))
+        → AreAnswers (AreRowsAt work.now) count answers
+        → AreAnswers (AreRowsAt work.now) count others → answers ≡ others }
 {
     one_list_of_answers(work);
 }

@@ -2,8 +2,8 @@
 
 ghost use Rattle.std.specs.Prelude.{◌≡◌, ◌<◌, IfOk};
 ghost use Rattle.std.specs.List.Sorted.{IsStrictlyIncreasing};
-ghost use Rattle.pair_check.specs.Views.{checked_by, IsWholeView};
-ghost use Rattle.row_check.specs.Tiles.{IsIndexOf, AreRowsOfTile};
+ghost use Rattle.pair_check.specs.CheckViews.{checked_by, IsWholeView};
+ghost use Rattle.row_check.specs.RowsOfTile.{IsIndexOf, AreRowsOfTile};
 
 use box_index::TileIndex;
 use kept_rows::TileRows;
@@ -39,7 +39,8 @@ fn rows_counted<L: Ledger>(
     requires view { IsWholeView view.now }
     requires index { IsIndexOf (checked_by view.now) index.now }
     requires changed { IsStrictlyIncreasing changed.now }
-    ensures { IfOk result (λ rows. AreRowsOfTile (checked_by view.now) index.now tile changed.now rows.items) }
+    ensures { IfOk result (λ rows.
+        AreRowsOfTile (checked_by view.now) index.now tile changed.now rows.items) }
 {
     let mut steps: Steps<L> = Steps::new(blank);
     test_tile(alloc, view, index, tile, changed, &mut steps)
@@ -67,8 +68,8 @@ impl<'a> TileWork for Tiles<'a> {
 
     ghost use Rattle.std.specs.Prelude.{length};
     ghost use Rattle.std.specs.List.Sorted.{IsStrictlyIncreasing};
-    ghost use Rattle.pair_check.specs.Views.{checked_by, IsWholeView};
-    ghost use Rattle.row_check.specs.Tiles.{IsIndexOf};
+    ghost use Rattle.pair_check.specs.CheckViews.{checked_by, IsWholeView};
+    ghost use Rattle.row_check.specs.RowsOfTile.{IsIndexOf};
     ghost use Rattle.tile_rows.specs.Work.{AreRowsAt};
 
     ghost ready = { λ work. IsWholeView work.view × IsIndexOf (checked_by work.view) work.index.now × IsStrictlyIncreasing work.changed.now };

@@ -4,14 +4,14 @@ use Rattle.board_items.specs.declared.item.Item.{Item}
 use Rattle.board_items.specs.Boards.{PlainBoard, with_item}
 use Rattle.pcb_read.specs.BoardOf.{with_items}
 use Rattle.board_edits.specs.declared.refusal.Refusal.{Refusal}
-use Rattle.board_edits.specs.Deeds.{PlainDeed, nothing, append, put_back, take_out, shift, After, Does}
+use Rattle.board_edits.specs.Operations.{PlainOperation, nothing, append, put_back, take_out, shift, After, Does}
 use Rattle.rule_text.specs.declared.error.RuleError.{RuleError}
 use Rattle.rule_text.specs.RulesOf.{PlainRules}
 use Rattle.edit_script.specs.Commands.{PlainCommand, add, delete, move, rules, again, PlainStep, edit, undo, redo}
 use Rattle.drc_state.specs.declared.error.EditError.{EditError}
 use Rattle.drc_state.specs.States.{State}
-use Rattle.drc_state.specs.Steps.{is_rules, with_board, IsAfterDeed, with_rules, Answers}
-use Rattle.drc_state.specs.Changes.{returned}
+use Rattle.drc_state.specs.CommandSteps.{is_rules, with_board, IsAfterOperation, with_rules, Answers}
+use Rattle.drc_state.specs.StateChanges.{returned}
 use Rattle.undo_log.specs.declared.error.HistoryError.{HistoryError}
 use Rattle.undo_log.specs.Past.{Past, Passed, is_again, undone, undone_to, redone, redone_to, edit_answer, StepAnswers, left_by, AreStepsTo}
 
@@ -67,27 +67,27 @@ more_with board (item ∷ items) =
     let rest = more_with (with_item board item) items in
     record { ids = omega (arith, one.ids, rest.ids); units = omega (arith, one.units, rest.units) }
 
-more_after : (deed : PlainDeed) (old new : PlainBoard) → After old deed new → AreMore old new
+more_after : (operation : PlainOperation) (old new : PlainBoard) → After old operation new → AreMore old new
 more_after nothing old new h = subst (AreMore old) (sym h) (more_itself old)
 more_after (append items) old new h = subst (AreMore old) (sym h) (more_with old items)
 more_after (put_back items) old new h = subst (AreMore old) (sym h.others) (record { ids = omega arith; units = omega arith })
 more_after (take_out unit) old new h = subst (AreMore old) (sym h) (record { ids = omega arith; units = omega arith })
 more_after (shift unit dx dy) old new h = subst (AreMore old) (sym h.others) (record { ids = omega arith; units = omega arith })
 
-more_by_deed : (s next : State) (deed : Result PlainDeed Refusal) → IsAfterDeed s deed (Ok next) → AreMore s.board next.board
-more_by_deed s next (Ok deed) h = subst (λ (x : State). AreMore s.board x.board) (sym (ap (state_in s) h.2)) (more_after deed s.board h.0 h.1)
-more_by_deed s next (Err why) h = absurd (subst is_made h tt)
+more_by_operation : (s next : State) (operation : Result PlainOperation Refusal) → IsAfterOperation s operation (Ok next) → AreMore s.board next.board
+more_by_operation s next (Ok operation) h = subst (λ (x : State). AreMore s.board x.board) (sym (ap (state_in s) h.2)) (more_after operation s.board h.0 h.1)
+more_by_operation s next (Err why) h = absurd (subst is_made h tt)
 
 more_by_rules : (s next : State) (found : Result PlainRules RuleError) → Ok next ≡ with_rules s found → AreMore s.board next.board
 more_by_rules s next (Ok found) h = subst (λ (x : State). AreMore s.board x.board) (sym (ap (state_in s) h)) (more_itself s.board)
 more_by_rules s next (Err why) h = absurd (subst is_made h tt)
 
 pub more_answered : (s next : State) (command : PlainCommand) → Answers s command (Ok next) → AreMore s.board next.board
-more_answered s next (add text at) h = more_by_deed s next h.0 h.2
-more_answered s next (delete name at) h = more_by_deed s next h.0 h.2
-more_answered s next (move name dx dy at) h = more_by_deed s next h.0 h.2
+more_answered s next (add text at) h = more_by_operation s next h.0 h.2
+more_answered s next (delete name at) h = more_by_operation s next h.0 h.2
+more_answered s next (move name dx dy at) h = more_by_operation s next h.0 h.2
 more_answered s next (rules text at) h = more_by_rules s next h.0 h.2
-more_answered s next (again at) h = more_by_deed s next h.0 h.2
+more_answered s next (again at) h = more_by_operation s next h.0 h.2
 
 more_taken : (past next : Past) (answer : Result Past HistoryError) → AreMore past.now.board (past_in past answer).now.board → Ok next ≡ answer → AreMore past.now.board next.now.board
 more_taken past next answer more e = subst (λ (a : Result Past HistoryError). AreMore past.now.board (past_in past a).now.board) (sym e) more
@@ -115,13 +115,13 @@ more_by_step past next (redo at) h = more_taken past next (redone past) (more_re
 
 -- ---- a report again
 
-same_by_deed : (s next : State) (deed : Result PlainDeed Refusal) → Does s.board (again 0) deed → IsAfterDeed s deed (Ok next) → next ≡ s
-same_by_deed s next (Ok nothing) does h = ap (state_in s) h.2 ∙ ap (with_board s) h.1
-same_by_deed s next (Ok deed) does h = absurd (cc)
-same_by_deed s next (Err why) does h = absurd (subst is_made h tt)
+same_by_operation : (s next : State) (operation : Result PlainOperation Refusal) → Does s.board (again 0) operation → IsAfterOperation s operation (Ok next) → next ≡ s
+same_by_operation s next (Ok nothing) does h = ap (state_in s) h.2 ∙ ap (with_board s) h.1
+same_by_operation s next (Ok operation) does h = absurd (cc)
+same_by_operation s next (Err why) does h = absurd (subst is_made h tt)
 
 pub one_again : (old new : State) (command : PlainCommand) → is_again command ≡ true → Answers old command (Ok new) → new ≡ old
-one_again old new (again at) e h = same_by_deed old new h.0 h.1 h.2
+one_again old new (again at) e h = same_by_operation old new h.0 h.1 h.2
 one_again old new (add text at) e h = absurd (cc)
 one_again old new (delete name at) e h = absurd (cc)
 one_again old new (move name dx dy at) e h = absurd (cc)

@@ -5,10 +5,10 @@ use Rattle.undo_log.specs.declared.error.HistoryError.{HistoryError}
 use Rattle.undo_log.specs.declared.error.HistoryError.TheVariants.{Edit, NothingToUndo, NothingToRedo, Stopped, OutOfMemory}
 use Rattle.undo_log.specs.Past.{Past, StepAnswers, left_by, AreStepsTo}
 use Rattle.undo_log.specs.Ways.{PlainHistory, IsPastOf}
-use Rattle.undo_log.specs.Taking.{IsRefused, IsCall, AreCalls}
+use Rattle.undo_log.specs.HistoryCalls.{IsStepRefused, IsCall, AreCalls}
 
 -- a stopped history stays so
-stopped_by : (old new : PlainHistory) (step : PlainStep) (why : HistoryError) → old.stopped ≡ true → IsRefused old new step why → new.stopped ≡ true
+stopped_by : (old new : PlainHistory) (step : PlainStep) (why : HistoryError) → old.stopped ≡ true → IsStepRefused old new step why → new.stopped ≡ true
 stopped_by old new step (Edit e) stopped h = absurd (cc)
 stopped_by old new step NothingToUndo stopped h = absurd (cc)
 stopped_by old new step NothingToRedo stopped h = absurd (cc)
@@ -24,7 +24,7 @@ all_stopped old new [] stopped calls = subst (λ (x : PlainHistory). x.stopped �
 all_stopped old new (step ∷ steps) stopped calls = all_stopped calls.0 new steps (stays_stopped old calls.0 step stopped calls.1) calls.2
 
 -- a refusal of a history that goes on leaves it as it was
-refused_step : (old new : PlainHistory) (step : PlainStep) (why : HistoryError) (past : Past) → IsRefused old new step why → IsPastOf old past → (new.stopped ≡ true) ⊎ (StepAnswers past step (Err why) × (new ≡ old))
+refused_step : (old new : PlainHistory) (step : PlainStep) (why : HistoryError) (past : Past) → IsStepRefused old new step why → IsPastOf old past → (new.stopped ≡ true) ⊎ (StepAnswers past step (Err why) × (new ≡ old))
 refused_step old new step (Edit e) past h ways = inr (h.1 past ways, h.2)
 refused_step old new step NothingToUndo past h ways = inr (h.1 past ways, h.2)
 refused_step old new step NothingToRedo past h ways = inr (h.1 past ways, h.2)

@@ -5,8 +5,8 @@ use Rattle.edit_script.specs.Commands.{PlainCommand}
 use Rattle.drc_state.specs.declared.change.Change.{Change}
 use Rattle.drc_state.specs.declared.change.Change.TheVariants.{Nothing, PutBack, TakeOut, Shift, Replace}
 use Rattle.drc_state.specs.States.{State}
-use Rattle.drc_state.specs.Steps.{is_rules}
-use Rattle.drc_state.specs.Changes.{PlainChange, plain_change, is_replace, ChangeFits, LeadsBack}
+use Rattle.drc_state.specs.CommandSteps.{is_rules}
+use Rattle.drc_state.specs.StateChanges.{PlainChange, plain_change, is_replace, ChangeFits, IsInverseChange}
 use Rattle.undo_log.specs.Past.{begun, is_again}
 use Rattle.undo_log.specs.Ways.{nearest_first, AddsNoItems, AreWays}
 use Rattle.undo_log.specs.Keeping.{IsNoted}
@@ -24,7 +24,7 @@ adds_none (Shift unit dx dy) = tt
 adds_none (Replace rules) = tt
 
 pub noted : (old new : State) (command : PlainCommand) (back back_now on on_now : List Change) (change : Change)
-    → is_replace (plain_change change) ≡ is_rules command → LeadsBack (plain_change change) new old
+    → is_replace (plain_change change) ≡ is_rules command → IsInverseChange (plain_change change) new old
     → (is_again command ≡ true → (back_now ≡ back) × (on_now ≡ on)) → (is_again command ≡ false → (back_now ≡ back ++ change ∷ []) × (on_now ≡ []))
     → IsNoted old new command (nearest_first back) (nearest_first back_now) (nearest_first on) (nearest_first on_now)
 noted old new command back back_now on on_now change kind leads again other = record {

@@ -4,7 +4,7 @@ use Rattle.std.specs.List.{AllZip}
 use Rattle.std.proofs.lemmas.List.Elements.{All-weaker}
 use Rattle.board_items.specs.declared.item.Item.{Item}
 use Rattle.board_items.specs.Boards.{PlainBoard}
-use Rattle.net_class.specs.Classes.{PlainClasses}
+use Rattle.net_class.specs.NetClasses.{PlainClasses}
 use Rattle.cond_lang.specs.Rules.{PlainRule}
 use Rattle.rule_pick.specs.declared.facts.Facts.{Facts}
 use Rattle.rule_pick.specs.FactsOf.{class_of_net, AreFactsOf}
@@ -12,7 +12,7 @@ use Rattle.pair_check.specs.PlainRow.{PlainRow}
 use Rattle.pair_check.specs.Rows.{Checked, Stands, IsRow, AreRows}
 use Rattle.net_groups.specs.NetParts.{PlainNetPart, IsNetPart, AreParts, real_nets}
 use Rattle.drc_state.specs.States.{State, checked_in}
-use Rattle.drc_state.specs.Changes.{returned}
+use Rattle.drc_state.specs.StateChanges.{returned}
 use Rattle.drc_session.specs.Sessions.{PlainSession, IsChecked}
 use Rattle.undo_log.proofs.Ways.{numbered}
 

@@ -2,14 +2,14 @@
 use Rattle.std.proofs.Common.{◌≡◌, refl, sym, subst, ℕ, Bool, true, false, List, [], ◌∷◌, Ok, if◌then◌else◌}
 use Rattle.edit_script.specs.Commands.{PlainCommand, edit, undo, redo}
 use Rattle.drc_state.specs.States.{State}
-use Rattle.drc_state.specs.Steps.{is_rules, Answers}
-use Rattle.drc_state.specs.Changes.{PlainChange, is_replace, Makes}
+use Rattle.drc_state.specs.CommandSteps.{is_rules, Answers}
+use Rattle.drc_state.specs.StateChanges.{PlainChange, is_replace, Makes}
 use Rattle.drc_session.specs.declared.applied.Applied.{Applied}
 use Rattle.drc_session.specs.Sessions.{IsApplied, IsCarriedOut}
 use Rattle.undo_log.specs.Past.{Past, Passed, is_again, edited, undone, redone, nearest_replaced}
-use Rattle.undo_log.specs.Ways.{PlainHistory, Leads, DoLead, AreWays, IsPastOf, HasPast}
+use Rattle.undo_log.specs.Ways.{PlainHistory, ChangeLeadsTo, DoLead, AreWays, IsPastOf, HasPast}
 use Rattle.undo_log.specs.Keeping.{IsNoted, IsSwitched}
-use Rattle.undo_log.specs.Taking.{IsStepFrom, IsTaken}
+use Rattle.undo_log.specs.HistoryCalls.{IsStepFrom, IsHistoryStepTaken}
 use Rattle.undo_log.proofs.Answers.{more_answered, one_again}
 use Rattle.undo_log.proofs.Ways.{one_edit}
 
@@ -56,7 +56,7 @@ module _ (old new : PlainHistory) (command : PlainCommand) (applied : Applied) (
         applied_is = applied_on s t past.now (edited past command t).now (is_rules command) (is_rules command) applied ways.present after.present refl carried.applied_is;
       }
 
-  pub edit_taken : old.stopped ≡ false → new.stopped ≡ false → HasPast old → IsTaken old new (edit command) applied
+  pub edit_taken : old.stopped ≡ false → new.stopped ≡ false → HasPast old → IsHistoryStepTaken old new (edit command) applied
   edit_taken was runs past = record { running = (was, runs); past = past; steps = step_edited }
 
 -- ---- steps back and on
@@ -73,7 +73,7 @@ module _ (old new : PlainHistory) (applied : Applied) where
   abbrev is : State
   is = new.session.state
 
-  module _ (one_undo : (s t : State) (change other : PlainChange) (back on : List PlainChange) (past : Past) → AreWays s (change ∷ back) on past → Makes change s t → Leads other t (record { state = s; replaced = is_replace change })
+  module _ (one_undo : (s t : State) (change other : PlainChange) (back on : List PlainChange) (past : Past) → AreWays s (change ∷ back) on past → Makes change s t → ChangeLeadsTo other t (record { state = s; replaced = is_replace change })
       → (next : Past) × (undone past ≡ Ok next) × AreWays t back (other ∷ on) next)
       (switched : IsSwitched old.session new.session old.back new.back old.on new.on applied) where
     step_undone : (at : ℕ) (past : Past) → IsPastOf old past → IsStepFrom past new (undo at) applied
@@ -87,10 +87,10 @@ module _ (old new : PlainHistory) (applied : Applied) where
           applied_is = applied_on was is past.now found.0.now (is_replace switched.change) (nearest_replaced past.earlier) applied ways.present found.2.present (nearest_kind was switched.change new.back past.earlier here.earlier) switched.turned.applied_is;
         }
 
-    pub undo_taken : old.stopped ≡ false → new.stopped ≡ false → HasPast old → (at : ℕ) → IsTaken old new (undo at) applied
+    pub undo_taken : old.stopped ≡ false → new.stopped ≡ false → HasPast old → (at : ℕ) → IsHistoryStepTaken old new (undo at) applied
     undo_taken w r past at = record { running = (w, r); past = past; steps = step_undone at }
 
-  module _ (one_redo : (s t : State) (change other : PlainChange) (back on : List PlainChange) (past : Past) → AreWays s back (change ∷ on) past → Makes change s t → Leads other t (record { state = s; replaced = is_replace change })
+  module _ (one_redo : (s t : State) (change other : PlainChange) (back on : List PlainChange) (past : Past) → AreWays s back (change ∷ on) past → Makes change s t → ChangeLeadsTo other t (record { state = s; replaced = is_replace change })
       → (next : Past) × (redone past ≡ Ok next) × AreWays t (other ∷ back) on next)
       (switched : IsSwitched old.session new.session old.on new.on old.back new.back applied) where
     step_redone : (at : ℕ) (past : Past) → IsPastOf old past → IsStepFrom past new (redo at) applied
@@ -104,5 +104,5 @@ module _ (old new : PlainHistory) (applied : Applied) where
           applied_is = applied_on was is past.now found.0.now (is_replace switched.change) (nearest_replaced past.later) applied ways.present found.2.present (nearest_kind was switched.change new.on past.later here.later) switched.turned.applied_is;
         }
 
-    pub redo_taken : old.stopped ≡ false → new.stopped ≡ false → HasPast old → (at : ℕ) → IsTaken old new (redo at) applied
+    pub redo_taken : old.stopped ≡ false → new.stopped ≡ false → HasPast old → (at : ℕ) → IsHistoryStepTaken old new (redo at) applied
     redo_taken w r past at = record { running = (w, r); past = past; steps = step_redone at }

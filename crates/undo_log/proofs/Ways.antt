@@ -4,13 +4,13 @@ use Rattle.std.specs.List.{AllZip}
 use Rattle.std.proofs.lemmas.List.Elements.{All-weaker}
 use Rattle.board_items.specs.declared.item.Item.{Item}
 use Rattle.board_items.specs.Boards.{PlainBoard, Rise}
-use Rattle.board_edits.specs.Deeds.{PlainDeed, nothing, append, put_back, take_out, shift, After}
+use Rattle.board_edits.specs.Operations.{PlainOperation, nothing, append, put_back, take_out, shift, After}
 use Rattle.edit_script.specs.Commands.{PlainCommand}
 use Rattle.drc_state.specs.States.{State}
-use Rattle.drc_state.specs.Steps.{is_rules}
-use Rattle.drc_state.specs.Changes.{PlainChange, edit, replace, is_replace, Makes, ChangeFits, returned}
-use Rattle.undo_log.specs.Past.{Past, Passed, IsPassedAlike, ArePastsAlike, is_again, edited, undone, undone_to, redone, redone_to}
-use Rattle.undo_log.specs.Ways.{PlainHistory, AddsNoItems, Leads, DoLead, AreWays, IsPastOf}
+use Rattle.drc_state.specs.CommandSteps.{is_rules}
+use Rattle.drc_state.specs.StateChanges.{PlainChange, edit, replace, is_replace, Makes, ChangeFits, returned}
+use Rattle.undo_log.specs.Past.{Past, Passed, IsPassedEqualUpToNumbers, ArePastsEqualUpToNumbers, is_again, edited, undone, undone_to, redone, redone_to}
+use Rattle.undo_log.specs.Ways.{PlainHistory, AddsNoItems, ChangeLeadsTo, DoLead, AreWays, IsPastOf}
 
 -- the board, or the state, with other numbers that come next
 abbrev pub numbered : PlainBoard → ℕ → ℕ → PlainBoard
@@ -21,26 +21,26 @@ renumbered s id unit = record s { board = numbered s.board id unit }
 
 -- ---- a change looks at no next number, and keeps both
 
-deed_on : (deed : PlainDeed) (s t : PlainBoard) (id unit : ℕ) → AddsNoItems (edit deed) → After s deed t → After (numbered s id unit) deed (numbered t id unit)
-deed_on nothing s t id unit none e = ap (λ (x : PlainBoard). numbered x id unit) e
-deed_on (append items) s t id unit none e = absurd none
-deed_on (put_back items) s t id unit none m = record { merged = m.merged; others = ap (λ (x : PlainBoard). numbered x id unit) m.others }
-deed_on (take_out out) s t id unit none e = ap (λ (x : PlainBoard). numbered x id unit) e
-deed_on (shift moved dx dy) s t id unit none m = record { items = m.items; others = ap (λ (x : PlainBoard). numbered x id unit) m.others }
+operation_on : (operation : PlainOperation) (s t : PlainBoard) (id unit : ℕ) → AddsNoItems (edit operation) → After s operation t → After (numbered s id unit) operation (numbered t id unit)
+operation_on nothing s t id unit none e = ap (λ (x : PlainBoard). numbered x id unit) e
+operation_on (append items) s t id unit none e = absurd none
+operation_on (put_back items) s t id unit none m = record { merged = m.merged; others = ap (λ (x : PlainBoard). numbered x id unit) m.others }
+operation_on (take_out out) s t id unit none e = ap (λ (x : PlainBoard). numbered x id unit) e
+operation_on (shift moved dx dy) s t id unit none m = record { items = m.items; others = ap (λ (x : PlainBoard). numbered x id unit) m.others }
 
 makes_on : (change : PlainChange) (s t : State) (id unit : ℕ) → AddsNoItems change → Makes change s t → Makes change (renumbered s id unit) (renumbered t id unit)
-makes_on (edit deed) s t id unit none m = (deed_on deed s.board t.board id unit none m.0, ap (λ (x : State). renumbered x id unit) m.1)
+makes_on (edit operation) s t id unit none m = (operation_on operation s.board t.board id unit none m.0, ap (λ (x : State). renumbered x id unit) m.1)
 makes_on (replace rules) s t id unit none e = ap (λ (x : State). renumbered x id unit) e
 
-deed_keeps : (deed : PlainDeed) (s t : PlainBoard) → AddsNoItems (edit deed) → After s deed t → t ≡ numbered t s.next_id s.next_unit
-deed_keeps nothing s t none e = subst (λ (x : PlainBoard). x ≡ numbered x s.next_id s.next_unit) (sym e) refl
-deed_keeps (append items) s t none e = absurd none
-deed_keeps (put_back items) s t none m = m.others ∙ ap (λ (x : PlainBoard). numbered x s.next_id s.next_unit) (sym m.others)
-deed_keeps (take_out out) s t none e = subst (λ (x : PlainBoard). x ≡ numbered x s.next_id s.next_unit) (sym e) refl
-deed_keeps (shift moved dx dy) s t none m = m.others ∙ ap (λ (x : PlainBoard). numbered x s.next_id s.next_unit) (sym m.others)
+operation_keeps : (operation : PlainOperation) (s t : PlainBoard) → AddsNoItems (edit operation) → After s operation t → t ≡ numbered t s.next_id s.next_unit
+operation_keeps nothing s t none e = subst (λ (x : PlainBoard). x ≡ numbered x s.next_id s.next_unit) (sym e) refl
+operation_keeps (append items) s t none e = absurd none
+operation_keeps (put_back items) s t none m = m.others ∙ ap (λ (x : PlainBoard). numbered x s.next_id s.next_unit) (sym m.others)
+operation_keeps (take_out out) s t none e = subst (λ (x : PlainBoard). x ≡ numbered x s.next_id s.next_unit) (sym e) refl
+operation_keeps (shift moved dx dy) s t none m = m.others ∙ ap (λ (x : PlainBoard). numbered x s.next_id s.next_unit) (sym m.others)
 
 keeps_numbers : (change : PlainChange) (s t : State) → AddsNoItems change → Makes change s t → t ≡ renumbered t s.board.next_id s.board.next_unit
-keeps_numbers (edit deed) s t none m = ap (λ (b : PlainBoard). record t { board = b }) (deed_keeps deed s.board t.board none m.0)
+keeps_numbers (edit operation) s t none m = ap (λ (b : PlainBoard). record t { board = b }) (operation_keeps operation s.board t.board none m.0)
 keeps_numbers (replace rules) s t none e = subst (λ (x : State). x ≡ renumbered x s.board.next_id s.board.next_unit) (sym e) refl
 
 -- ---- it fits as well where the numbers are greater
@@ -85,13 +85,13 @@ lead_on s id unit (change ∷ changes) (passed ∷ others) i u lead = (
 -- ---- edits
 
 pub one_edit : (old new : State) (command : PlainCommand) (change : PlainChange) (back on : List PlainChange) (past : Past) → AreWays old back on past → is_again command ≡ false → old.board.next_id ≤ new.board.next_id → old.board.next_unit ≤ new.board.next_unit
-    → Leads change new (record { state = old; replaced = is_rules command }) → AreWays new (change ∷ back) [] (edited past command new)
+    → ChangeLeadsTo change new (record { state = old; replaced = is_rules command }) → AreWays new (change ∷ back) [] (edited past command new)
 one_edit old new command change back on past ways other i u leads =
     subst (λ (b : Bool). AreWays new (change ∷ back) [] (if b then past else record { earlier = record { state = past.now; replaced = is_rules command } ∷ past.earlier; now = new; later = [] })) (sym other)
     (record {
       present = refl;
       earlier = (
-        subst (λ (x : State). Leads change new (record { state = x; replaced = is_rules command })) (sym ways.present) leads,
+        subst (λ (x : State). ChangeLeadsTo change new (record { state = x; replaced = is_rules command })) (sym ways.present) leads,
         subst (λ (x : State). DoLead (returned x new) back past.earlier) (sym ways.present) (lead_on old new.board.next_id new.board.next_unit back past.earlier i u ways.earlier),
       );
       later = tt;
@@ -101,7 +101,7 @@ one_edit old new command change back on past ways other i u leads =
 
 module _ (one_state : (change : PlainChange) (old a b : State) → Makes change old a → Makes change old b → a ≡ b) where
   -- changes lead through states that are alike
-  lead_alike : (state : State) (changes : List PlainChange) (passed others : List Passed) → DoLead state changes passed → DoLead state changes others → AllZip IsPassedAlike passed others
+  lead_alike : (state : State) (changes : List PlainChange) (passed others : List Passed) → DoLead state changes passed → DoLead state changes others → AllZip IsPassedEqualUpToNumbers passed others
   lead_alike state [] [] [] h k = tt
   lead_alike state [] [] (q ∷ qs) h k = absurd k
   lead_alike state [] (p ∷ ps) others h k = absurd h
@@ -113,22 +113,22 @@ module _ (one_state : (change : PlainChange) (old a b : State) → Makes change 
         lead_alike (returned q.state state) changes ps qs (subst (λ (x : State). DoLead x changes ps) same h.1) k.1,
       )
 
-  pub one_past : (history : PlainHistory) (past other : Past) → IsPastOf history past → IsPastOf history other → ArePastsAlike past other
+  pub one_past : (history : PlainHistory) (past other : Past) → IsPastOf history past → IsPastOf history other → ArePastsEqualUpToNumbers past other
   one_past history past other h k = record {
     now = h.present ∙ sym k.present;
     earlier = lead_alike history.session.state history.back past.earlier other.earlier h.earlier k.earlier;
     later = lead_alike history.session.state history.on past.later other.later h.later k.later;
   }
 
-  -- the nearest change on one side is made, and the one that leads back goes to the other
+  -- the nearest change on one side is made, and its inverse goes to the other
   turn : (old new : State) (change other : PlainChange) (changes others : List PlainChange) (passed : Passed) (far near : List Passed)
-      → DoLead old (change ∷ changes) (passed ∷ far) → DoLead old others near → Makes change old new → Leads other new (record { state = old; replaced = is_replace change })
+      → DoLead old (change ∷ changes) (passed ∷ far) → DoLead old others near → Makes change old new → ChangeLeadsTo other new (record { state = old; replaced = is_replace change })
       → (new ≡ returned passed.state old) × DoLead new changes far × DoLead new (other ∷ others) (record { state = old; replaced = passed.replaced } ∷ near)
   turn old new change other changes others passed far near lead goes makes leads = (
     one,
     subst (λ (x : State). DoLead x changes far) (sym one) lead.1,
     (
-      subst (λ (b : Bool). Leads other new (record { state = old; replaced = b })) lead.0.kind leads,
+      subst (λ (b : Bool). ChangeLeadsTo other new (record { state = old; replaced = b })) lead.0.kind leads,
       subst (λ (x : State). DoLead x others near) same goes,
     ),
   )
@@ -139,7 +139,7 @@ module _ (one_state : (change : PlainChange) (old a b : State) → Makes change 
       same : old ≡ returned old new
       same = ap (λ (x : State). returned old x) (sym (keeps_numbers change old new lead.0.adds_none makes))
 
-  pub one_undo : (old new : State) (change other : PlainChange) (back on : List PlainChange) (past : Past) → AreWays old (change ∷ back) on past → Makes change old new → Leads other new (record { state = old; replaced = is_replace change })
+  pub one_undo : (old new : State) (change other : PlainChange) (back on : List PlainChange) (past : Past) → AreWays old (change ∷ back) on past → Makes change old new → ChangeLeadsTo other new (record { state = old; replaced = is_replace change })
       → (next : Past) × (undone past ≡ Ok next) × AreWays new back (other ∷ on) next
   one_undo old new change other back on past ways makes leads = by past.earlier refl ways.earlier
     where
@@ -156,7 +156,7 @@ module _ (one_state : (change : PlainChange) (old a b : State) → Makes change 
             },
           )
 
-  pub one_redo : (old new : State) (change other : PlainChange) (back on : List PlainChange) (past : Past) → AreWays old back (change ∷ on) past → Makes change old new → Leads other new (record { state = old; replaced = is_replace change })
+  pub one_redo : (old new : State) (change other : PlainChange) (back on : List PlainChange) (past : Past) → AreWays old back (change ∷ on) past → Makes change old new → ChangeLeadsTo other new (record { state = old; replaced = is_replace change })
       → (next : Past) × (redone past ≡ Ok next) × AreWays new (other ∷ back) on next
   one_redo old new change other back on past ways makes leads = by past.later refl ways.later
     where

@@ -1,6 +1,6 @@
 pub mod Past
 pub mod Ways
-pub mod Taking
+pub mod HistoryCalls
 pub mod Keeping
-pub mod Holding
-pub mod Reasons
+pub mod HistoryContents
+pub mod HistoryReasons

@@ -4,8 +4,8 @@ use Rattle.std.specs.List.{AllZip}
 use Rattle.edit_script.specs.Commands.{PlainCommand, again, PlainStep, edit, undo, redo}
 use Rattle.drc_state.specs.declared.error.EditError.{EditError}
 use Rattle.drc_state.specs.States.{State}
-use Rattle.drc_state.specs.Steps.{is_rules, Answers}
-use Rattle.drc_state.specs.Changes.{returned}
+use Rattle.drc_state.specs.CommandSteps.{is_rules, Answers}
+use Rattle.drc_state.specs.StateChanges.{returned}
 use Rattle.undo_log.specs.declared.error.HistoryError.{HistoryError}
 use Rattle.undo_log.specs.declared.error.HistoryError.TheVariants.{Edit, NothingToUndo, NothingToRedo}
 
@@ -27,15 +27,15 @@ begun state = record { earlier = []; now = state; later = [] }
 -- ---- two pasts
 
 -- the states are equal but for the numbers that come next, and so is whether the rules were replaced
-pub record IsPassedAlike (one other : Passed) : Type 0 where
+pub record IsPassedEqualUpToNumbers (one other : Passed) : Type 0 where
   pub state : one.state ≡ returned other.state one.state
   pub replaced : one.replaced ≡ other.replaced
 
 -- the present is one, and the other states are alike, each to each
-pub record ArePastsAlike (one other : Past) : Type 0 where
+pub record ArePastsEqualUpToNumbers (one other : Past) : Type 0 where
   pub now : one.now ≡ other.now
-  pub earlier : AllZip IsPassedAlike one.earlier other.earlier
-  pub later : AllZip IsPassedAlike one.later other.later
+  pub earlier : AllZip IsPassedEqualUpToNumbers one.earlier other.earlier
+  pub later : AllZip IsPassedEqualUpToNumbers one.later other.later
 
 -- ---- steps
 

@@ -4,12 +4,12 @@ use Rattle.board_edits.specs.Fitting.{AddsNone}
 use Rattle.drc_state.specs.declared.change.Change.{Change}
 use Rattle.edit_script.specs.Commands.{PlainCommand}
 use Rattle.drc_state.specs.States.{State}
-use Rattle.drc_state.specs.Steps.{Answers}
-use Rattle.drc_state.specs.Changes.{PlainChange, edit, replace, plain_change, is_replace, returned, LeadsBack}
+use Rattle.drc_state.specs.CommandSteps.{Answers}
+use Rattle.drc_state.specs.StateChanges.{PlainChange, edit, replace, plain_change, is_replace, returned, IsInverseChange}
 use Rattle.drc_session.specs.Sessions.{PlainSession}
 use Rattle.undo_log.specs.Past.{Past, Passed, is_again}
 
--- the changes that lead back and those that lead on, the nearest first on both sides; want of memory stops a history
+-- the inverse changes and those that lead on, the nearest first on both sides; running out of memory stops a history
 pub record PlainHistory : Type 0 where
   pub session : PlainSession
   pub back : List PlainChange
@@ -22,18 +22,18 @@ nearest_first changes = reverse (map plain_change changes)
 
 -- the change adds no items that are new
 abbrev pub AddsNoItems : PlainChange → Type 0
-AddsNoItems (edit deed) = AddsNone deed
+AddsNoItems (edit operation) = AddsNone operation
 AddsNoItems (replace rules) = Unit {0}
 
 -- the change leads from the state to the one that was passed
-pub record Leads (change : PlainChange) (state : State) (passed : Passed) : Type 0 where
-  pub back : LeadsBack change state passed.state
+pub record ChangeLeadsTo (change : PlainChange) (state : State) (passed : Passed) : Type 0 where
+  pub back : IsInverseChange change state passed.state
   pub adds_none : AddsNoItems change
   pub kind : is_replace change ≡ passed.replaced
 
 -- the change leads from the state to the other, past a replacement of the rules or an edit
 abbrev pub LeadsTo : PlainChange → State → State → Bool → Type 0
-LeadsTo change state other replaced = Leads change state (record { state = other; replaced = replaced })
+LeadsTo change state other replaced = ChangeLeadsTo change state (record { state = other; replaced = replaced })
 
 -- the command edits the state, and leaves the other
 abbrev pub IsEdited : State → PlainCommand → State → Type 0
@@ -44,7 +44,7 @@ abbrev pub DoLead : State → List PlainChange → List Passed → Type 0
 DoLead state [] [] = Unit {0}
 DoLead state [] (passed ∷ others) = ⊥
 DoLead state (change ∷ changes) [] = ⊥
-DoLead state (change ∷ changes) (passed ∷ others) = Leads change state passed × DoLead (returned passed.state state) changes others
+DoLead state (change ∷ changes) (passed ∷ others) = ChangeLeadsTo change state passed × DoLead (returned passed.state state) changes others
 
 -- the changes lead back through what was before the present, and on through what was undone
 pub record AreWays (now : State) (back on : List PlainChange) (past : Past) : Type 0 where

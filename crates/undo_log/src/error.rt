@@ -6,7 +6,7 @@ use std::alloc::AllocError;
 use std::error::Error;
 use std::fmt;
 
-/// Why a step of a history is not taken. `Stopped` is tested first; after each refusal but want of memory all is as it was. It is
+/// Why a step of a history is not taken. `Stopped` is tested first; after each refusal but running out of memory all is as it was. It is
 /// written `NAME (CODE)`, as `NothingToUndo (11)` and `Edit.Item.OutOfBoard (10.4.6)`.
 #[derive(Clone, Copy, Debug, Drop, PartialEq, Eq)]
 pub enum HistoryError {
@@ -16,21 +16,21 @@ pub enum HistoryError {
     NothingToUndo,
     /// Nothing was undone since the last edit.
     NothingToRedo,
-    /// An earlier call met a want of memory.
+    /// An earlier call ran out of memory.
     Stopped,
     /// Memory ran out.
     OutOfMemory,
 }
 
 impl HasReason for HistoryError {
-    ghost use Rattle.undo_log.specs.Reasons.{step_reason};
+    ghost use Rattle.undo_log.specs.HistoryReasons.{step_reason};
 
     ghost reason_of = { step_reason };
 
     ghost depth = { 4 };
 
     /// What it is called, its number and the byte of the text that a refused command came from, where its refusal has one.
-    /// Want of memory has no number, which is written 0.
+    /// Running out of memory has no number, which is written 0.
     fn reason(&self) -> Reason {
         match self {
             HistoryError::Edit(error) => error.reason().behind("Edit", 10),
@@ -56,7 +56,7 @@ impl From<AllocError> for HistoryError {
 impl fmt::Display for HistoryError {
     ghost use Rattle.std.specs.Prelude.{Some};
     ghost use Rattle.plain_types.specs.Reasons.{written};
-    ghost use Rattle.undo_log.specs.Reasons.{step_reason};
+    ghost use Rattle.undo_log.specs.HistoryReasons.{step_reason};
 
     ghost output = { λ e. Some (written (step_reason e)) };
 

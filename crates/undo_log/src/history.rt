@@ -9,8 +9,8 @@ use drc_state::Change;
 use std::alloc::Global;
 use std::marker::Model;
 
-/// A session whose commands can be undone and done again, as far back as it began. It keeps the changes that lead back and those that
-/// lead on. Contracts see the session, both lists with the nearest change first, and whether an earlier call met a want of memory.
+/// A session whose commands can be undone and done again, as far back as it began. It keeps the inverse changes and those that
+/// lead on. Contracts see the session, both lists with the nearest change first, and whether an earlier call ran out of memory.
 #[derive(Drop)]
 pub struct History {
     pub(crate) session: Session,
@@ -24,7 +24,7 @@ impl Model for History {
     ghost use Rattle.std.specs.Coded.{codes};
     ghost use Rattle.cond_lang.specs.TreeCode.{coded_tree};
     ghost use Rattle.undo_log.specs.Ways.{PlainHistory, nearest_first};
-    ghost use Rattle.undo_log.specs.Holding.{IsRunning};
+    ghost use Rattle.undo_log.specs.HistoryContents.{IsRunning};
 
     ghost Value = { PlainHistory };
 
@@ -58,7 +58,7 @@ impl History {
         &self.session
     }
 
-    /// Whether an earlier call met a want of memory. A history that is not stopped has a past. It takes no memory.
+    /// Whether an earlier call ran out of memory. A history that is not stopped has a past. It takes no memory.
     pub fn stopped(&self) -> bool
         ensures same { result ≡ self.now.stopped }
         ensures past { self.now.stopped ≡ false → HasPast self.now }

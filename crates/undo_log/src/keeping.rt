@@ -1,16 +1,16 @@
-//! What is kept of a step. A place for the change that leads back is made before the session is changed.
+//! What is kept of a step. A place for the inverse change is made before the session is changed.
 
 ghost use Rattle.std.specs.Prelude.{◌≡◌, ◌⊎◌, ◌++◌, ◌∷◌, ◌<◌, true, false, [], List, vec_len, vec_capacity, OnOk, IfOk, IfErr, OnErr, Err};
 ghost use Rattle.plain_types.specs.Limits.{IsWorkerCount};
 ghost use Rattle.edit_script.specs.Commands.{plain_command};
 ghost use Rattle.edit_script.specs.Fits.{Fits};
 ghost use Rattle.drc_state.specs.declared.error.EditError.{EditError};
-ghost use Rattle.drc_state.specs.Steps.{Answers};
-ghost use Rattle.drc_state.specs.Changes.{PlainChange, ChangeFits};
+ghost use Rattle.drc_state.specs.CommandSteps.{Answers};
+ghost use Rattle.drc_state.specs.StateChanges.{PlainChange, ChangeFits};
 ghost use Rattle.drc_session.specs.Sessions.{IsDealt, IsCarriedOut};
 ghost use Rattle.undo_log.specs.Past.{is_again};
 ghost use Rattle.undo_log.specs.Ways.{nearest_first};
-ghost use Rattle.undo_log.specs.Taking.{IsStoppedOrSame};
+ghost use Rattle.undo_log.specs.HistoryCalls.{IsStoppedOrSame};
 ghost use Rattle.undo_log.specs.Keeping.{IsNoted, IsSwitched};
 
 use drc_session::{Applied, Session};
@@ -20,7 +20,7 @@ use std::alloc::{AllocError, AllocGlobal};
 use std::thread::Threads;
 use tile_pool::Gate;
 
-/// Keeps the change that leads back, and nothing leads on any more. Of a report again nothing is kept.
+/// Keeps the inverse change, and nothing leads on any more. Of a report again nothing is kept.
 fn keep(command: &Command<'_>, change: Change, back: &mut Vec<Change>, on: &mut Vec<Change>)
     requires room { vec_len back.old < vec_capacity back.old }
     ensures again { is_again (plain_command command.now) ≡ true → (back.new.items ≡ back.old.items)
@@ -37,7 +37,7 @@ fn keep(command: &Command<'_>, change: Change, back: &mut Vec<Change>, on: &mut 
     }
 }
 
-/// Carries the command out, and keeps the change that leads back.
+/// Carries the command out, and keeps the inverse change.
 pub(crate) fn carry_out<R: Threads + Sync + AllocGlobal, G: Gate>(
     rt: &R,
     workers: u32,
@@ -70,7 +70,7 @@ pub(crate) fn carry_out<R: Threads + Sync + AllocGlobal, G: Gate>(
     Ok(applied)
 }
 
-/// Makes the nearest change on one side, and keeps the one that leads back on the other. Only want of memory fails it.
+/// Makes the nearest change on one side, and keeps its inverse on the other. Only running out of memory fails it.
 pub(crate) fn switch<R: Threads + Sync + AllocGlobal, G: Gate>(
     rt: &R,
     workers: u32,

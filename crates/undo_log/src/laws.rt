@@ -6,13 +6,13 @@ ghost use Rattle.board_items.specs.Boards.{PlainBoard, Rise};
 ghost use Rattle.board_items.specs.Units.{without_unit};
 ghost use Rattle.edit_script.specs.Commands.{PlainCommand, PlainStep, edit, undo, redo};
 ghost use Rattle.drc_state.specs.States.{State};
-ghost use Rattle.drc_state.specs.Steps.{is_rules, Answers};
-ghost use Rattle.drc_state.specs.Changes.{PlainChange, is_replace, Makes, returned};
+ghost use Rattle.drc_state.specs.CommandSteps.{is_rules, Answers};
+ghost use Rattle.drc_state.specs.StateChanges.{PlainChange, is_replace, Makes, returned};
 ghost use Rattle.drc_session.specs.Sessions.{PlainSession, IsChecked};
 ghost use Rattle.undo_log.specs.declared.error.HistoryError.{HistoryError};
-ghost use Rattle.undo_log.specs.Past.{Past, ArePastsAlike, is_again, edited, undone, redone, StepAnswers, AreStepsTo};
+ghost use Rattle.undo_log.specs.Past.{Past, ArePastsEqualUpToNumbers, is_again, edited, undone, redone, StepAnswers, AreStepsTo};
 ghost use Rattle.undo_log.specs.Ways.{PlainHistory, IsEdited, LeadsTo, AreWays, IsPastOf};
-ghost use Rattle.undo_log.specs.Taking.{AreCalls};
+ghost use Rattle.undo_log.specs.HistoryCalls.{AreCalls};
 
 use drc_state::laws::{one_answer, one_state};
 use kept_nets::laws::one_list_of_parts;
@@ -108,7 +108,7 @@ pub fn one_redo()
 /// A history has one past, but for the numbers that come next in the states that were passed.
 pub fn one_past()
     ensures { (history : PlainHistory) (past other : Past) → IsPastOf history past
-        → IsPastOf history other → ArePastsAlike past other }
+        → IsPastOf history other → ArePastsEqualUpToNumbers past other }
 {
     one_state();
 }

@@ -1,5 +1,5 @@
 //! The past of what is edited: the states before the present one and those that were undone, which steps lead through them, and that the
-//! changes which are kept do. What a history keeps are changes that lead back and such that lead on, and no copies of the board.
+//! changes which are kept do. What a history keeps are inverse changes and such that lead on, and no copies of the board.
 #![tactic(auto)]
 
 mod error;

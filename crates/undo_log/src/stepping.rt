@@ -6,7 +6,7 @@ ghost use Rattle.edit_script.specs.Commands.{plain_command, edit, undo, redo};
 ghost use Rattle.edit_script.specs.Fits.{Fits};
 ghost use Rattle.drc_session.specs.Sessions.{IsDealt};
 ghost use Rattle.undo_log.specs.declared.error.HistoryError.TheVariants.{NothingToUndo, NothingToRedo};
-ghost use Rattle.undo_log.specs.Taking.{IsTaken, IsRefused};
+ghost use Rattle.undo_log.specs.HistoryCalls.{IsHistoryStepTaken, IsStepRefused};
 
 use crate::error::HistoryError;
 use crate::history::History;
@@ -21,8 +21,8 @@ use tile_pool::Gate;
 
 impl History {
     /// Carries the command out, or says why it is not carried out. What was undone before is forgotten, but for a report again, which is
-    /// no step. The tiles that it stirs are dealt to so many workers, from 1 to 64. After each refusal but want of memory all is as it
-    /// was. After want of memory the history is stopped, and its session is stopped or as it was.
+    /// no step. The tiles that it affects are dealt to so many workers, from 1 to 64. After each refusal but running out of memory all is
+    /// as it was. After running out of memory the history is stopped, and its session is stopped or as it was.
     pub fn apply<R: Threads + Sync + AllocGlobal, G: Gate>(
         &mut self,
         rt: &R,
@@ -33,10 +33,10 @@ impl History {
         requires workers { IsWorkerCount workers }
         requires fits { Fits (plain_command command.now) }
         ensures taken { IfOk result (λ applied.
-            IsTaken self.old self.new (edit (plain_command command.now)) applied
+            IsHistoryStepTaken self.old self.new (edit (plain_command command.now)) applied
             × IsDealt workers applied) }
         ensures refused { IfErr result
-            (IsRefused self.old self.new (edit (plain_command command.now))) }
+            (IsStepRefused self.old self.new (edit (plain_command command.now))) }
     {
         if self.stopped {
             return Err(HistoryError::Stopped);
@@ -59,8 +59,8 @@ impl History {
         }
     }
 
-    /// Goes back by one step, or says that there is none, or that memory is wanting. `NothingToUndo` says exactly that nothing leads back.
-    /// After want of memory the history is stopped, and its session is stopped or as it was.
+    /// Goes back by one step, or says that there is none, or that memory ran out. `NothingToUndo` says exactly that there is nothing to
+    /// undo. After running out of memory the history is stopped, and its session is stopped or as it was.
     pub fn undo<R: Threads + Sync + AllocGlobal, G: Gate>(
         &mut self,
         rt: &R,
@@ -69,9 +69,9 @@ impl History {
     ) -> Result<Applied, HistoryError>
         requires workers { IsWorkerCount workers }
         ensures taken { (at : ℕ)
-            → IfOk result (λ applied. IsTaken self.old self.new (undo at) applied
+            → IfOk result (λ applied. IsHistoryStepTaken self.old self.new (undo at) applied
             × IsDealt workers applied) }
-        ensures refused { (at : ℕ) → IfErr result (IsRefused self.old self.new (undo at)) }
+        ensures refused { (at : ℕ) → IfErr result (IsStepRefused self.old self.new (undo at)) }
         ensures none { (result ≡ Err NothingToUndo) ↔
             ((self.old.stopped ≡ false) × (self.old.back ≡ [])) }
     {
@@ -95,8 +95,8 @@ impl History {
         Ok(applied)
     }
 
-    /// Goes on by one step that was undone, or says that there is none, or that memory is wanting. `NothingToRedo` says exactly that nothing
-    /// leads on. After want of memory the history is stopped, and its session is stopped or as it was.
+    /// Goes on by one step that was undone, or says that there is none, or that memory ran out. `NothingToRedo` says exactly that
+    /// nothing leads on. After running out of memory the history is stopped, and its session is stopped or as it was.
     pub fn redo<R: Threads + Sync + AllocGlobal, G: Gate>(
         &mut self,
         rt: &R,
@@ -105,9 +105,9 @@ impl History {
     ) -> Result<Applied, HistoryError>
         requires workers { IsWorkerCount workers }
         ensures taken { (at : ℕ)
-            → IfOk result (λ applied. IsTaken self.old self.new (redo at) applied
+            → IfOk result (λ applied. IsHistoryStepTaken self.old self.new (redo at) applied
             × IsDealt workers applied) }
-        ensures refused { (at : ℕ) → IfErr result (IsRefused self.old self.new (redo at)) }
+        ensures refused { (at : ℕ) → IfErr result (IsStepRefused self.old self.new (redo at)) }
         ensures none { (result ≡ Err NothingToRedo) ↔
             ((self.old.stopped ≡ false) × (self.old.on ≡ [])) }
     {

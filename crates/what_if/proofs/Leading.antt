@@ -6,7 +6,7 @@ use Rattle.edit_script.specs.declared.command.Command.{Command}
 use Rattle.edit_script.specs.Commands.{PlainCommand, plain_command}
 use Rattle.edit_script.specs.Fits.{Fits}
 use Rattle.drc_state.specs.States.{State}
-use Rattle.drc_state.specs.Steps.{Answers}
+use Rattle.drc_state.specs.CommandSteps.{Answers}
 use Rattle.what_if.specs.declared.error.TrialError.{TrialError}
 use Rattle.what_if.specs.declared.error.TrialError.TheVariants.{Refused, OutOfMemory}
 use Rattle.what_if.specs.Trials.{LeadTo}

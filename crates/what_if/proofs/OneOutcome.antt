@@ -7,7 +7,7 @@ use Rattle.pair_check.specs.Rows.{Checked, IsRow, AreRows}
 use Rattle.row_check.proofs.OneList.{one_list_where}
 use Rattle.drc_state.specs.declared.error.EditError.{EditError}
 use Rattle.drc_state.specs.States.{State, checked_in}
-use Rattle.drc_state.specs.Steps.{Answers}
+use Rattle.drc_state.specs.CommandSteps.{Answers}
 use Rattle.what_if.specs.Trials.{LeadTo, StopsAt, IsDifference, IsCount, IsFirstLeast, IsLeast, IsSurvey}
 use Rattle.what_if.proofs.Stopping.{Stops, stops}
 

@@ -5,10 +5,10 @@ use Rattle.std.proofs.Math.Seq.{get_or-append_seam}
 use native.Mathlib.Decide.{dec_lt}
 use native.Mathlib.Nat.{mod-lt, mul-le-mul_right, div-add-mod', add-mul, one-mul}
 use Rattle.edit_script.specs.Commands.{PlainCommand}
-use Rattle.tile_pool.specs.Answers.{AreAnswers}
+use Rattle.tile_pool.specs.NumberedValues.{AreAnswers}
 use Rattle.drc_state.specs.States.{State}
 use Rattle.what_if.specs.Trials.{IsCountAt}
-use Rattle.what_if.specs.Runs.{AreCountsFrom, AreRuns}
+use Rattle.what_if.specs.CommandRuns.{AreCountsFrom, AreCommandRuns}
 
 -- past the end of a list stands what is handed in
 past_end : {X : Type 0} (xs : List X) (k : ℕ) (d : X) → length xs ≤ k → get_or xs k d ≡ d
@@ -62,7 +62,7 @@ module _ (s : State) (commands : List PlainCommand) (first stride : ℕ) where
 
 -- ---- all runs
 
-module _ (s : State) (commands : List PlainCommand) (runs : List (Vec (Option ℕ) Global)) (some_runs : 0 < length runs) (are : AreRuns s commands (length runs) runs) where
+module _ (s : State) (commands : List PlainCommand) (runs : List (Vec (Option ℕ) Global)) (some_runs : 0 < length runs) (are : AreCommandRuns s commands (length runs) runs) where
   pub count_in : (place : ℕ) (run : Vec (Option ℕ) Global) (d : Option ℕ) → place < length commands → run ≡ get_or runs (place % length runs) run → IsCountAt s commands place (get_or run.items (place / length runs) d)
   count_in place run d lt is =
       let w : ℕ = length runs in

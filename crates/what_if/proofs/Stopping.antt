@@ -3,7 +3,7 @@ use Rattle.std.proofs.Common.{ℕ, zero, suc, List, [], ◌∷◌, ◌++◌, len
 use Rattle.edit_script.specs.Commands.{PlainCommand}
 use Rattle.drc_state.specs.declared.error.EditError.{EditError}
 use Rattle.drc_state.specs.States.{State}
-use Rattle.drc_state.specs.Steps.{Answers}
+use Rattle.drc_state.specs.CommandSteps.{Answers}
 use Rattle.what_if.specs.Trials.{LeadTo, StopsAt}
 
 -- the command at this place is the first that is refused, command by command

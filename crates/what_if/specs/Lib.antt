@@ -1,6 +1,6 @@
 pub mod Trials
 pub mod Tried
-pub mod Desks
-pub mod Runs
+pub mod TrialScratches
+pub mod CommandRuns
 pub mod Fewest
-pub mod Reasons
+pub mod TrialReasons

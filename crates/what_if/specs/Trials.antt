@@ -7,7 +7,7 @@ use Rattle.pair_check.specs.Rows.{IsRow, AreRows, AreRowsWhere}
 use Rattle.pair_check.specs.SameRows.{same_rows}
 use Rattle.drc_state.specs.declared.error.EditError.{EditError}
 use Rattle.drc_state.specs.States.{State, checked_in}
-use Rattle.drc_state.specs.Steps.{Answers}
+use Rattle.drc_state.specs.CommandSteps.{Answers}
 
 -- ---- one after another
 

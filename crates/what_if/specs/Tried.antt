@@ -3,8 +3,8 @@ use Rattle.std.specs.Prelude.{◌≡◌, ◌≢◌, ◌⊎◌, ℕ, true, false,
 use Rattle.edit_script.specs.Commands.{PlainCommand}
 use Rattle.drc_state.specs.declared.error.EditError.TheVariants.{Stopped, OutOfMemory as NoMemory}
 use Rattle.drc_state.specs.States.{State}
-use Rattle.drc_state.specs.Steps.{Answers}
-use Rattle.drc_state.specs.Changes.{plain_change, LeadsBack}
+use Rattle.drc_state.specs.CommandSteps.{Answers}
+use Rattle.drc_state.specs.StateChanges.{plain_change, IsInverseChange}
 use Rattle.drc_session.specs.Sessions.{PlainSession, IsChecked}
 use Rattle.what_if.specs.declared.error.TrialError.{TrialError}
 use Rattle.what_if.specs.declared.error.TrialError.TheVariants.{Refused, OutOfMemory}
@@ -32,17 +32,17 @@ IsRefusedAt s command place OutOfMemory = Unit {0}
 
 -- ---- on the session itself
 
--- the session took the command: beside it stand the rows that come and go, and the change that leads back
+-- the session took the command: beside it stand the rows that come and go, and the inverse change
 pub record IsTaken (before : State) (command : PlainCommand) (after : State) (taken : Taken) : Type 0 where
   pub answer : Answers before command (Ok after)
   pub differ : IsDifference before after taken.come.items taken.gone.items
-  pub back : LeadsBack (plain_change taken.back) after before
+  pub back : IsInverseChange (plain_change taken.back) after before
 
 -- it did not: the command is refused, by the rules of what is edited, and all is as it was, or memory ran out
 abbrev pub IsRefusedHere : PlainSession → PlainSession → PlainCommand → TrialError → Type 0
 IsRefusedHere old new command (Refused step inner) = (step ≡ 0) × Answers old.state command (Err inner) × (inner ≢ Stopped) × (inner ≢ NoMemory) × (new ≡ old)
 IsRefusedHere old new command OutOfMemory = Unit {0}
 
--- what want of memory leaves of the session: it is stopped, or it took the command, and only the rows that come and go are wanting
+-- what running out of memory leaves of the session: it is stopped, or it took the command, and only the rows that come and go are wanting
 abbrev pub IsStoppedOrTook : PlainSession → PlainSession → PlainCommand → Type 0
 IsStoppedOrTook old new command = (new.stopped ≡ true) ⊎ ((new.stopped ≡ false) × Answers old.state command (Ok new.state))

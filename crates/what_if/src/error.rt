@@ -16,13 +16,13 @@ pub enum TrialError {
 }
 
 impl HasReason for TrialError {
-    ghost use Rattle.what_if.specs.Reasons.{trial_reason};
+    ghost use Rattle.what_if.specs.TrialReasons.{trial_reason};
 
     ghost reason_of = { trial_reason };
 
     ghost depth = { 1 };
 
-    /// What it is called and its number. It has no place: a command is told by its step. Want of memory has no number, which
+    /// What it is called and its number. It has no place: a command is told by its step. Running out of memory has no number, which
     /// is written 0.
     fn reason(&self) -> Reason {
         match self {
@@ -46,7 +46,7 @@ impl From<AllocError> for TrialError {
 impl fmt::Display for TrialError {
     ghost use Rattle.std.specs.Prelude.{Some};
     ghost use Rattle.plain_types.specs.Reasons.{written};
-    ghost use Rattle.what_if.specs.Reasons.{trial_reason};
+    ghost use Rattle.what_if.specs.TrialReasons.{trial_reason};
 
     ghost output = { λ e. Some (written (trial_reason e)) };
 

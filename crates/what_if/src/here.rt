@@ -6,11 +6,11 @@ ghost use Rattle.edit_script.specs.Commands.{PlainCommand, plain_command};
 ghost use Rattle.edit_script.specs.Fits.{Fits};
 ghost use Rattle.pair_check.specs.Rows.{AreRows};
 ghost use Rattle.drc_state.specs.States.{State, checked_in};
-ghost use Rattle.drc_state.specs.Steps.{Answers};
-ghost use Rattle.drc_state.specs.Changes.{plain_change, ChangeFits, LeadsBack};
+ghost use Rattle.drc_state.specs.CommandSteps.{Answers};
+ghost use Rattle.drc_state.specs.StateChanges.{plain_change, ChangeFits, IsInverseChange};
 ghost use Rattle.what_if.specs.declared.error.TrialError.{TrialError};
 ghost use Rattle.what_if.specs.Tried.{IsTaken, IsRefusedHere, IsStoppedOrTook};
-ghost use Rattle.what_if.specs.Desks.{adds, turns_back};
+ghost use Rattle.what_if.specs.TrialScratches.{adds, turns_back};
 
 use crate::error::TrialError;
 use crate::laws::turned_back;
@@ -72,7 +72,7 @@ pub fn take<R: Threads + Sync + AllocGlobal, G: Gate>(
     }
 }
 
-/// Turns a session that took a command back to the state from before, by the change that leads back. Where memory runs out the session is
+/// Turns a session that took a command back to the state from before, by the inverse change. Where memory runs out the session is
 /// stopped.
 pub fn turn_back<R: Threads + Sync + AllocGlobal>(
     session: &mut Session,
@@ -87,7 +87,8 @@ pub fn turn_back<R: Threads + Sync + AllocGlobal>(
     ensures stopped { OnErr result (session.new.stopped ≡ true) }
     ensures back { (s : State) (command : PlainCommand) → adds command ≡ false
         → Answers s command (Ok session.old.state)
-        → LeadsBack (plain_change back) session.old.state s → OnOk result (session.new.state ≡ s) }
+        → IsInverseChange (plain_change back) session.old.state s
+        → OnOk result (session.new.state ≡ s) }
 {
     turned_back();
     session.turn(rt, workers, back, &NoGate)?;

@@ -5,10 +5,10 @@ ghost use Rattle.edit_script.specs.Commands.{PlainCommand};
 ghost use Rattle.pair_check.specs.PlainRow.{PlainRow};
 ghost use Rattle.drc_state.specs.declared.error.EditError.{EditError};
 ghost use Rattle.drc_state.specs.States.{State};
-ghost use Rattle.drc_state.specs.Steps.{Answers};
-ghost use Rattle.drc_state.specs.Changes.{PlainChange, Makes, LeadsBack};
+ghost use Rattle.drc_state.specs.CommandSteps.{Answers};
+ghost use Rattle.drc_state.specs.StateChanges.{PlainChange, Makes, IsInverseChange};
 ghost use Rattle.what_if.specs.Trials.{LeadTo, StopsAt, IsDifference, IsSurvey};
-ghost use Rattle.what_if.specs.Desks.{adds};
+ghost use Rattle.what_if.specs.TrialScratches.{adds};
 
 use drc_state::laws::{one_answer, one_state};
 use row_check::laws::one_list;
@@ -38,10 +38,10 @@ pub fn one_survey()
     one_list();
 }
 
-/// After a command that adds no list, the change that leads back makes the state from before, with the same numbers that come next.
+/// After a command that adds no list, the inverse change makes the state from before, with the same numbers that come next.
 pub fn turned_back()
     ensures { (s next last : State) (command : PlainCommand) (change : PlainChange)
-        → adds command ≡ false → Answers s command (Ok next) → LeadsBack change next s
+        → adds command ≡ false → Answers s command (Ok next) → IsInverseChange change next s
         → Makes change next last → last ≡ s }
 {
     one_state();

@@ -4,7 +4,6 @@
 //! of their own. [`take`] and [`turn_back`] go on the session itself, which costs no copy.
 #![tactic(auto)]
 
-mod desk;
 mod difference;
 mod error;
 mod here;
@@ -13,6 +12,7 @@ mod least;
 mod outcome;
 mod runs;
 mod surveying;
+mod trial_scratch;
 mod trying;
 mod work;
 

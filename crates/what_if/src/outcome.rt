@@ -15,7 +15,7 @@ pub struct Trial {
     pub gone: Vec<Row>,
 }
 
-/// What a command did to a session: which rows came and which went by it, and the change that leads back. Rows are told apart by all that
+/// What a command did to a session: which rows came and which went by it, and the inverse change. Rows are told apart by all that
 /// their readers give.
 #[derive(Drop)]
 pub struct Taken {

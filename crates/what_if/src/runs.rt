@@ -2,9 +2,9 @@
 
 ghost use Rattle.std.specs.Prelude.{◌<◌, IfOk, length, map};
 ghost use Rattle.edit_script.specs.Commands.{plain_command};
-ghost use Rattle.tile_pool.specs.Answers.{AreAnswers};
+ghost use Rattle.tile_pool.specs.NumberedValues.{AreAnswers};
 ghost use Rattle.what_if.specs.Trials.{IsCountAt};
-ghost use Rattle.what_if.specs.Runs.{AreRuns};
+ghost use Rattle.what_if.specs.CommandRuns.{AreCommandRuns};
 
 use drc_session::Session;
 use edit_script::Command;
@@ -18,7 +18,7 @@ fn count_of(
     place: usize,
 ) -> Option<u64>
     requires some { 0 < length runs.now }
-    requires runs { AreRuns session.now.state (map plain_command commands.now)
+    requires runs { AreCommandRuns session.now.state (map plain_command commands.now)
         (length runs.now) runs.now }
     requires place { place < length commands.now }
     ensures { IsCountAt session.now.state (map plain_command commands.now) place result }
@@ -40,7 +40,7 @@ pub(crate) fn in_order(
     runs: &[Vec<Option<u64>>],
 ) -> Result<Vec<Option<u64>>, AllocError>
     requires some { 0 < length runs.now }
-    requires runs { AreRuns session.now.state (map plain_command commands.now)
+    requires runs { AreCommandRuns session.now.state (map plain_command commands.now)
         (length runs.now) runs.now }
     ensures { IfOk result (λ counts.
         AreAnswers (IsCountAt session.now.state (map plain_command commands.now))

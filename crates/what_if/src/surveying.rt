@@ -56,7 +56,7 @@ pub fn survey_of(counts: Vec<Option<u64>>) -> Survey
 
 /// Tries each of at most 15,625 commands alone, on a copy of the session. They are dealt to so many workers, from 1 to 64, and the gate
 /// is called before and after each command with its place. A worker turns its copy back after each command, and makes another after
-/// one that adds a list or replaces the rules. The session that is lent must not be stopped, and it stays as it is. Only want of
+/// one that adds a list or replaces the rules. The session that is lent must not be stopped, and it stays as it is. Only running out of
 /// memory refuses the call.
 pub fn survey<R: Threads + Sync + AllocGlobal, G: Gate>(
     session: &Session,

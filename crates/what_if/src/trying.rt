@@ -7,7 +7,7 @@ ghost use Rattle.edit_script.specs.Commands.{plain_command};
 ghost use Rattle.edit_script.specs.Fits.{Fits};
 ghost use Rattle.pair_check.specs.Rows.{Before, AreRows};
 ghost use Rattle.drc_state.specs.States.{State, checked_in};
-ghost use Rattle.drc_state.specs.Steps.{Answers};
+ghost use Rattle.drc_state.specs.CommandSteps.{Answers};
 ghost use Rattle.drc_session.specs.Sessions.{IsChecked};
 ghost use Rattle.what_if.specs.Trials.{LeadTo, IsDifference};
 ghost use Rattle.what_if.specs.Tried.{IsTrialOf, IsRefusal, IsRefusedAt};

@@ -5,7 +5,7 @@ ghost use Rattle.edit_script.specs.Commands.{plain_command};
 ghost use Rattle.edit_script.specs.Fits.{Fits};
 ghost use Rattle.what_if.specs.Trials.{IsCountAt};
 
-use crate::desk::Desk;
+use crate::trial_scratch::TrialScratch;
 use drc_session::Session;
 use edit_script::Command;
 use std::alloc::{AllocError, AllocGlobal, Global};
@@ -25,17 +25,18 @@ pub(crate) struct Trials<'a, R, G> {
 
 /// How many rows there are after the command of this place alone.
 fn count_at<R: Threads + Sync + AllocGlobal>(
-    desk: &mut Desk<'_>,
+    trial_scratch: &mut TrialScratch<'_>,
     rt: &R,
     commands: &[Command<'_>],
     place: usize,
 ) -> Result<Option<u64>, AllocError>
     requires place { place < length commands.now }
     requires fit { All Fits (map plain_command commands.now) }
-    ensures same { desk.new ≡ desk.old }
-    ensures count { IfOk result (IsCountAt desk.old.state (map plain_command commands.now) place) }
+    ensures same { trial_scratch.new ≡ trial_scratch.old }
+    ensures count { IfOk result (IsCountAt trial_scratch.old.state
+        (map plain_command commands.now) place) }
 {
-    desk.count(rt, &commands[place])
+    trial_scratch.count(rt, &commands[place])
 }
 
 impl<'a, R: Threads + Sync, G: Gate> TileWork for Trials<'a, R, G> {
@@ -46,7 +47,7 @@ impl<'a, R: Threads + Sync, G: Gate> TileWork for Trials<'a, R, G> {
     ghost use Rattle.plain_types.specs.Limits.{IsWorkerCount, most_trials};
     ghost use Rattle.edit_script.specs.Commands.{plain_command};
     ghost use Rattle.edit_script.specs.Fits.{Fits};
-    ghost use Rattle.what_if.specs.Runs.{AreCountsFrom};
+    ghost use Rattle.what_if.specs.CommandRuns.{AreCountsFrom};
 
     ghost ready = { λ work. IsSync R.row × (work.session.now.stopped ≡ false) × All Fits (map plain_command work.commands.now) × (length work.commands.now ≤ most_trials) × IsWorkerCount work.stride };
 
@@ -58,30 +59,30 @@ impl<'a, R: Threads + Sync, G: Gate> TileWork for Trials<'a, R, G> {
         // The runtime goes beside the allocator of the work. That it gives one itself is known of the thread alone that calls for the survey,
         // and a trial starts threads.
         let rt = (self.rt, alloc);
-        let mut desk = Desk::new(self.session);
+        let mut trial_scratch = TrialScratch::new(self.session);
         let mut counts = Vec::new(alloc);
         let mut place = number as usize;
         'places: while place < self.commands.len() {
             self.gate.before(place as u32);
-            let counted = count_at(&mut desk, &rt, self.commands, place);
+            let counted = count_at(&mut trial_scratch, &rt, self.commands, place);
             self.gate.after(place as u32);
             let count = match counted {
                 Ok(count) => count,
                 Err(error) => {
-                    drop(desk);
+                    drop(trial_scratch);
                     return Err(error);
                 }
             };
             match counts.push(count) {
                 Ok(()) => {}
                 Err(_) => {
-                    drop(desk);
+                    drop(trial_scratch);
                     return Err(AllocError);
                 }
             }
             place += self.stride as usize;
         }
-        drop(desk);
+        drop(trial_scratch);
         Ok(counts)
     }
 }

@@ -1,2 +1,2 @@
 pub mod ZoneOf
-pub mod Taking
+pub mod FillSteps

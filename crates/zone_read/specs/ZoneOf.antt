@@ -13,20 +13,20 @@ use Rattle.board_items.specs.declared.item.What.TheVariants.{Fill, Area}
 use Rattle.board_items.specs.declared.item.Item.{Item}
 use Rattle.copper_layers.specs.Layers.{single_layer}
 use Rattle.board_items.specs.Boards.{PlainBoard}
-use Rattle.part_read.specs.declared.numbers.Spot.{Spot}
-use Rattle.part_read.specs.declared.stances.Stance.{Stance}
-use Rattle.list_read.specs.Answers.{◌>>=◌, needed, check}
-use Rattle.list_read.specs.Heads.{place, text_of, is_text, has_head}
-use Rattle.list_read.specs.Elements.{element}
-use Rattle.part_read.specs.Elements.{in_needed, given_or, atom_of, name_in}
-use Rattle.part_read.specs.LayersOf.{layer_in, layers_named, named}
+use Rattle.part_read.specs.declared.numbers.RawPoint.{RawPoint}
+use Rattle.part_read.specs.declared.placements.Placement.{Placement}
+use Rattle.list_read.specs.FirstRefusals.{◌>>=◌, needed, check}
+use Rattle.list_read.specs.ListHeads.{place, text_of, is_text, has_head}
+use Rattle.list_read.specs.NamedElements.{element}
+use Rattle.part_read.specs.ElementResults.{in_needed, given_or, atom_of, name_in}
+use Rattle.part_read.specs.BoardLayers.{layer_in, layers_named, named}
 use Rattle.part_read.specs.LayersWhere.{layers_of_any}
 use Rattle.part_read.specs.NetsOf.{net_of}
-use Rattle.part_read.specs.Stances.{points_stood}
+use Rattle.part_read.specs.Placements.{points_stood}
 use Rattle.part_read.specs.Figures.{first_of, no_radius, around}
 use Rattle.part_read.specs.Drawings.{corners_of}
 use Rattle.part_read.specs.PlainItems.{plain_item}
-use Rattle.part_read.specs.Room.{has_room_after}
+use Rattle.part_read.specs.Capacity.{has_capacity_after}
 
 -- ---- layers and name
 
@@ -50,7 +50,7 @@ title_of tree = given_or [] (λ list. atom_of 1 list >>= λ atom. Ok (text_of at
 -- ---- areas with their inside
 
 -- nothing is turned or moved
-abbrev pub as_it_is : Stance
+abbrev pub as_it_is : Placement
 as_it_is = record { quarter = 0; at = record { x = pos 0; y = pos 0 } }
 
 -- an area has no width
@@ -58,7 +58,7 @@ abbrev pub area_with : List Point → Shape
 area_with points = around no_radius (AreaCore points)
 
 -- the polygon of these corners, if it lies on the board
-abbrev pub area_of : List Spot → Option Shape
+abbrev pub area_of : List RawPoint → Option Shape
 area_of corners = option_map area_with (points_stood as_it_is corners)
 
 -- ---- rule areas
@@ -77,14 +77,14 @@ bans_in list = do
   Ok (record { tracks = tracks; vias = vias; pads = pads; footprints = footprints })
 
 -- the corners of (polygon (pts (xy X Y) ..))
-unfoldable pub polygon_of : Tree → Result (List Spot) BoardError
+unfoldable pub polygon_of : Tree → Result (List RawPoint) BoardError
 polygon_of tree = in_needed corners_of tree (element (codes "polygon") tree)
 
 -- the area of these corners, if it lies on the board and there is room for it
-unfoldable pub area_in_room : PlainBoard → ℕ → Tree → List Spot → Result Shape BoardError
-area_in_room board unit tree corners = do
+unfoldable pub area_in_capacity : PlainBoard → ℕ → Tree → List RawPoint → Result Shape BoardError
+area_in_capacity board unit tree corners = do
   shape ← needed (OutOfBoard (place tree)) (area_of corners)
-  room ← check (TooMany (place tree)) (has_room_after 0 board unit)
+  capacity ← check (TooMany (place tree)) (has_capacity_after 0 board unit)
   Ok shape
 
 -- the rule area of a zone: its polygon is looked at before its bans
@@ -92,7 +92,7 @@ unfoldable pub rule_area : PlainBoard → ℕ → Tree → ℕ → LayerSet → 
 rule_area board unit tree net layers title keepout = do
   corners ← polygon_of tree
   bans ← bans_in keepout
-  shape ← area_in_room board unit tree corners
+  shape ← area_in_capacity board unit tree corners
   Ok (plain_item (name_in tree) unit net (first_of corners) [] (Area title bans (record { layers = layers; shape = shape })) refl)
 
 -- ---- fills
@@ -125,18 +125,18 @@ fill_on unit net tree layer list = do
   Ok (plain_item (name_in tree) unit net (first_of corners) (record { layers = single_layer layer; shape = shape } ∷ []) Fill refl)
 
 -- the fill of a polygon on this layer, after so many, if its outline has no width and there is room for it
-unfoldable pub fill_in_room : ℕ → PlainBoard → ℕ → ℕ → Tree → Tree → ℕ → Result Item BoardError
-fill_in_room found board unit net tree list layer = do
+unfoldable pub fill_in_capacity : ℕ → PlainBoard → ℕ → ℕ → Tree → Tree → ℕ → Result Item BoardError
+fill_in_capacity found board unit net tree list layer = do
   thin ← check (ThickFill (place tree)) (is_thin tree)
   fill ← fill_on unit net tree layer list
-  room ← check (TooMany (place list)) (has_room_after found board unit)
+  capacity ← check (TooMany (place list)) (has_capacity_after found board unit)
   Ok fill
 
 -- that fill, and those that follow it; or those that follow one that is passed over
 abbrev pub with_fill : ℕ → PlainBoard → ℕ → ℕ → Tree → Tree → Result (List Item) BoardError → Result (List Item) BoardError → Option ℕ → Result (List Item) BoardError
 with_fill found board unit net tree list passed_over more None = passed_over
 with_fill found board unit net tree list passed_over more (Some layer) = do
-  fill ← fill_in_room found board unit net tree list layer
+  fill ← fill_in_capacity found board unit net tree list layer
   fills ← more
   Ok (fill ∷ fills)
 

@@ -5,16 +5,16 @@ ghost use Rattle.board_items.specs.Boards.{PlainBoard, name_of};
 ghost use Rattle.copper_layers.specs.Layers.{has_layer, is_within};
 ghost use Rattle.part_read.specs.OnBoard.{fits_board};
 ghost use Rattle.part_read.specs.Ready.{IsReady, AreReady};
-ghost use Rattle.part_read.specs.Room.{has_room_after};
+ghost use Rattle.part_read.specs.Capacity.{has_capacity_after};
 ghost use Rattle.sexpr_read.specs.Tree.{parts};
-ghost use Rattle.sexpr_read.specs.Views.{tree_of};
-ghost use Rattle.part_read.specs.Nodes.{Gives};
+ghost use Rattle.sexpr_read.specs.TreeViews.{tree_of};
+ghost use Rattle.part_read.specs.NodeResults.{Gives};
 ghost use Rattle.part_read.specs.Lists.{GivesItems};
-ghost use Rattle.list_read.specs.Elements.{element};
+ghost use Rattle.list_read.specs.NamedElements.{element};
 ghost use Rattle.part_read.specs.NetsOf.{net_of};
 ghost use Rattle.part_read.specs.Figures.{first_of};
-ghost use Rattle.zone_read.specs.Taking.{TakesFill};
-ghost use Rattle.zone_read.specs.ZoneOf.{layers_among, zone_layers, title_of, area_of, ban_of, bans_in, polygon_of, area_in_room, rule_area, is_thin, fill_layer, fill_on, fill_in_room, fills_after, zone_of};
+ghost use Rattle.zone_read.specs.FillSteps.{TakesFill};
+ghost use Rattle.zone_read.specs.ZoneOf.{layers_among, zone_layers, title_of, area_of, ban_of, bans_in, polygon_of, area_in_capacity, rule_area, is_thin, fill_layer, fill_on, fill_in_capacity, fills_after, zone_of};
 
 use board_items::{Bans, Board, BoardError, Boxed, Item, Part, What};
 use copper_layers::LayerSet;
@@ -22,8 +22,9 @@ use drc_io::Name;
 use geo_seg::{Core, Poly, Shape};
 use list_read::{element, has_head, name_from, place};
 use part_read::{
-    Corners, Spot, Stance, around, corners_of, first_atom, has_room_after, layer_in, layers_named,
-    missing, name_of_list, named, net_of, no_parts, no_radius, one_part, plain_item, points_stood,
+    Corners, Placement, RawPoint, around, corners_of, first_atom, has_capacity_after, layer_in,
+    layers_named, missing, name_of_list, named, net_of, no_parts, no_radius, one_part, plain_item,
+    points_stood,
 };
 use plain_types::one;
 use sexpr_read::Node;
@@ -106,11 +107,11 @@ fn area_of(alloc: Global, corners: &Corners) -> Result<Option<Shape>, AllocError
     ensures near { IfOk result (λ shape.
         IfSome shape (λ _. fits_board (first_of corners.now) ≡ true)) }
 {
-    let stance = Stance {
+    let placement = Placement {
         quarter: 0,
-        at: Spot { x: 0, y: 0 },
+        at: RawPoint { x: 0, y: 0 },
     };
-    match points_stood(alloc, stance, corners.as_slice())? {
+    match points_stood(alloc, placement, corners.as_slice())? {
         None => Ok(None),
         Some(points) => {
             let core = Core::Area(Poly::indexed(alloc, points)?);
@@ -119,8 +120,8 @@ fn area_of(alloc: Global, corners: &Corners) -> Result<Option<Shape>, AllocError
     }
 }
 
-/// The spot by which a report names an area.
-fn first_of(corners: &Corners) -> Spot
+/// The raw point by which a report names an area.
+fn first_of(corners: &Corners) -> RawPoint
     ensures { result ≡ first_of corners.now }
 {
     corners.as_slice()[0]
@@ -170,22 +171,23 @@ fn polygon_of(alloc: Global, node: Node<'_, '_>) -> Result<Corners, BoardError>
 }
 
 /// The area of these corners, where it lies on the board and there is room for it.
-#[tactic(auto, unfolding(crate::specs::ZoneOf::area_in_room))]
-fn area_in_room(
+#[tactic(auto, unfolding(crate::specs::ZoneOf::area_in_capacity))]
+fn area_in_capacity(
     alloc: Global,
     board: &Board,
     unit: u32,
     node: Node<'_, '_>,
     corners: &Corners,
 ) -> Result<Shape, BoardError>
-    ensures shape { Gives result (area_in_room board.now unit (tree_of node.entry) corners.now) }
+    ensures shape { Gives result (area_in_capacity board.now unit
+        (tree_of node.entry) corners.now) }
     ensures near { OnOk result (fits_board (first_of corners.now) ≡ true) }
-    ensures room { OnOk result (has_room_after 0 board.now unit ≡ true) }
+    ensures capacity { OnOk result (has_capacity_after 0 board.now unit ≡ true) }
 {
     let Some(shape) = area_of(alloc, corners)? else {
         return Err(BoardError::OutOfBoard { at: place(node) });
     };
-    if !has_room_after(0, board, unit) {
+    if !has_capacity_after(0, board, unit) {
         return Err(BoardError::TooMany { at: place(node) });
     }
     Ok(shape)
@@ -206,11 +208,12 @@ fn rule_area(
     ensures area { Gives result (rule_area owner.now.board.now owner.now.unit (tree_of node.entry)
         owner.now.net layers title (tree_of keepout.entry)) }
     ensures ready { IfOk result (IsReady owner.now.board.now owner.now.unit) }
-    ensures room { OnOk result (has_room_after 0 owner.now.board.now owner.now.unit ≡ true) }
+    ensures capacity { OnOk result (has_capacity_after 0 owner.now.board.now owner.now.unit
+        ≡ true) }
 {
     let corners = polygon_of(alloc, node)?;
     let bans = bans_in(keepout)?;
-    let shape = area_in_room(alloc, owner.board, owner.unit, node, &corners)?;
+    let shape = area_in_capacity(alloc, owner.board, owner.unit, node, &corners)?;
     let name = name_of_list(alloc, node)?;
     let what = area_what(alloc, title, bans, Part { layers, shape })?;
     Ok(plain_item(
@@ -292,8 +295,8 @@ fn fill_on(
 
 /// The fill of a polygon on this layer, after so many, where its outline has no width and there is
 /// room for it.
-#[tactic(auto, unfolding(crate::specs::ZoneOf::fill_in_room))]
-fn fill_in_room(
+#[tactic(auto, unfolding(crate::specs::ZoneOf::fill_in_capacity))]
+fn fill_in_capacity(
     alloc: Global,
     found: usize,
     owner: &Owner<'_>,
@@ -304,16 +307,18 @@ fn fill_in_room(
     requires below { layer < 32 }
     requires on { IsTrue (has_layer owner.now.board.now.copper layer) }
     requires net { is_some (name_of owner.now.board.now owner.now.net) ≡ true }
-    ensures fill { Gives result (fill_in_room found owner.now.board.now owner.now.unit owner.now.net
+    ensures fill { Gives result (fill_in_capacity found owner.now.board.now owner.now.unit
+        owner.now.net
         (tree_of node.entry) (tree_of list.entry) layer) }
     ensures ready { IfOk result (IsReady owner.now.board.now owner.now.unit) }
-    ensures room { OnOk result (has_room_after found owner.now.board.now owner.now.unit ≡ true) }
+    ensures capacity { OnOk result (has_capacity_after found owner.now.board.now owner.now.unit
+        ≡ true) }
 {
     if !is_thin(node) {
         return Err(BoardError::ThickFill { at: place(node) });
     }
     let fill = fill_on(alloc, owner.unit, owner.net, node, layer, list)?;
-    if !has_room_after(found, owner.board, owner.unit) {
+    if !has_capacity_after(found, owner.board, owner.unit) {
         return Err(BoardError::TooMany { at: place(list) });
     }
     Ok(fill)
@@ -347,7 +352,7 @@ fn take_fill(
     let Some(layer) = fill_layer(owner.board.copper(), part)? else {
         return Ok(());
     };
-    let fill = fill_in_room(alloc, fills.as_slice().len(), owner, node, part, layer)?;
+    let fill = fill_in_capacity(alloc, fills.as_slice().len(), owner, node, part, layer)?;
     push_item(fills, fill)?;
     Ok(())
 }
@@ -371,7 +376,7 @@ fn fills_of(alloc: Global, owner: &Owner<'_>, node: Node<'_, '_>) -> Result<Vec<
 /// on copper.
 ///
 /// Its refusals are those of [`BoardError`], exactly where the items of a zone (`specs/ZoneOf`)
-/// have them, with their places; want of memory alone is free. A fill keeps the boxes of its runs
+/// have them, with their places; running out of memory alone is free. A fill keeps the boxes of its runs
 /// of corners.
 #[tactic(auto, using(crate::proofs::Admitting::one_ready), unfolding(crate::specs::ZoneOf::zone_of))]
 pub fn read_zone(

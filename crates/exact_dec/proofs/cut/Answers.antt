@@ -1,5 +1,5 @@
 use Rattle.std.proofs.Common.{pos, sym, ◌∙◌}
-use Rattle.exact_dec.specs.Reading.{no_more}
+use Rattle.exact_dec.specs.DecimalAnswers.{no_more}
 use Rattle.exact_dec.specs.Spelled.{spelled}
 use Rattle.exact_dec.specs.Decimal.{cut}
 use Rattle.exact_dec.proofs.Answering.{long_answer, bounded_answer, cut_is, cut_above}

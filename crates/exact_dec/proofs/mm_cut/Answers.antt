@@ -1,7 +1,7 @@
 use Rattle.std.proofs.Common.{pos, sym, ap, ◌∙◌}
 use Rattle.exact_dec.specs.Decimal.{cut}
 use Rattle.exact_dec.specs.Computed.{answer_of, mm_cut_answer}
-use Rattle.exact_dec.specs.Reading.{no_more}
+use Rattle.exact_dec.specs.DecimalAnswers.{no_more}
 use Rattle.exact_dec.proofs.Laws.{mm_cut_law}
 use Rattle.exact_dec.proofs.UsualAnswers.{usual_cut}
 use Rattle.exact_dec.proofs.mm_cut.Goals as goal

@@ -1,7 +1,7 @@
 use Rattle.std.proofs.Common.{pos, sym, ap, ◌∙◌}
 use Rattle.exact_dec.specs.Computed.{near}
 use Rattle.exact_dec.specs.Computed.{answer_of, mm_near_answer}
-use Rattle.exact_dec.specs.Reading.{no_more}
+use Rattle.exact_dec.specs.DecimalAnswers.{no_more}
 use Rattle.exact_dec.proofs.Laws.{mm_near_law}
 use Rattle.exact_dec.proofs.UsualAnswers.{usual_near}
 use Rattle.exact_dec.proofs.mm_near.Goals as goal

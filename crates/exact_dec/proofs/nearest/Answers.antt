@@ -1,5 +1,5 @@
 use Rattle.std.proofs.Common.{pos, sym, ap, ◌∙◌}
-use Rattle.exact_dec.specs.Reading.{no_more}
+use Rattle.exact_dec.specs.DecimalAnswers.{no_more}
 use Rattle.exact_dec.specs.Spelled.{spelled, half}
 use Rattle.exact_dec.specs.Computed.{near}
 use Rattle.exact_dec.proofs.Answering.{bounded as bounded_by, long_answer, bounded_answer, near_half, near_above}

@@ -1,7 +1,7 @@
 use Rattle.std.proofs.Common.{◌≡◌, ℤ, pos, w64, unsigned_abs, sym, ap, ◌∙◌, Some}
 use Rattle.std.proofs.lemmas.Int.{to_z-of_z}
 use Rattle.exact_dec.specs.Computed.{near, answer_of, ratio_near_answer}
-use Rattle.exact_dec.specs.Reading.{is_no_half}
+use Rattle.exact_dec.specs.DecimalAnswers.{is_no_half}
 use Rattle.exact_dec.specs.Spelled.{spelled}
 use Rattle.exact_dec.proofs.Laws.{ratio_near_law}
 use Rattle.exact_dec.proofs.Rounding.{pos_abs}

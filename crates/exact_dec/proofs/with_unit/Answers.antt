@@ -1,7 +1,7 @@
 use Rattle.std.proofs.Common.{◌≡◌, ◌<◌, ◌++◌, ◌⊎◌, ℕ, pos, sym, ap, ◌∙◌, Some, None, inl, inr, arith}
 use Rattle.exact_dec.specs.Decimal.{number}
 use Rattle.exact_dec.specs.Computed.{near, answer_of, parts_of, unit_of, before_unit, with_unit_answer}
-use Rattle.exact_dec.specs.Reading.{no_more}
+use Rattle.exact_dec.specs.DecimalAnswers.{no_more}
 use Rattle.exact_dec.specs.Spelled.{spelled}
 use Rattle.exact_dec.proofs.Units.{with_unit_law, no_parts, bare_parts, unit_parts}
 use Rattle.exact_dec.proofs.with_unit.Goals as goal

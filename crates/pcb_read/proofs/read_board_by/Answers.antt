@@ -1,7 +1,7 @@
 use Rattle.std.proofs.Common.{sym, subst}
 use Rattle.sexpr_read.specs.Tree.{Tree}
 use Rattle.sexpr_read.specs.Spelling.{Spells}
-use Rattle.sexpr_read.specs.Views.{tree_of}
+use Rattle.sexpr_read.specs.TreeViews.{tree_of}
 use Rattle.pcb_read.proofs.Parting.{only_board_alone}
 use Rattle.pcb_read.proofs.read_board_by.Goals as goal
 

@@ -1,4 +1,4 @@
-use Rattle.sexpr_read.specs.Views.{root_of}
+use Rattle.sexpr_read.specs.TreeViews.{root_of}
 use Rattle.pcb_read.proofs.Parting.{only_board}
 use Rattle.pcb_read.proofs.read_with_spans.Goals as goal
 

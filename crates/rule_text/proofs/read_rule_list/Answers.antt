@@ -1,6 +1,6 @@
 use Rattle.std.proofs.Common.{refl}
 use Rattle.std.specs.Prelude.{Ok}
-use Rattle.rule_text.specs.Views.{plain_rules}
+use Rattle.rule_text.specs.RuleValues.{plain_rules}
 use Rattle.rule_text.proofs.Moved.{only_moved}
 use Rattle.rule_text.proofs.read_rule_list.Goals as goal
 

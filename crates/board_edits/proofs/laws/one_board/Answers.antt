@@ -1,4 +1,4 @@
-use Rattle.board_edits.proofs.FoundDeeds as found
+use Rattle.board_edits.proofs.FoundOperations as found
 use Rattle.board_edits.proofs.laws.one_board.Goals as goal
 
 pub returns : goal.returns

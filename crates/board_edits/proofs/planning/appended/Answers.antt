@@ -1,4 +1,4 @@
-use Rattle.board_edits.proofs.FoundDeeds.{found_refusal}
+use Rattle.board_edits.proofs.FoundOperations.{found_refusal}
 use Rattle.board_edits.proofs.planning.appended.Goals as goal
 
 pub returns-in-Err : goal.returns-in-Err

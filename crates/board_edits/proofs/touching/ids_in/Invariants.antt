@@ -1,5 +1,5 @@
 use Rattle.std.proofs.Common.{◌≡◌, ◌++◌}
-use Rattle.board_items.specs.Walks.{unit_left}
+use Rattle.board_items.specs.BoardIterators.{unit_left}
 use Rattle.board_edits.specs.Making.{ids_of}
 use Rattle.board_edits.proofs.touching.ids_in.Given as goal
 

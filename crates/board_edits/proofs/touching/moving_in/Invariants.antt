@@ -1,6 +1,6 @@
 use Rattle.std.proofs.Common.{◌≡◌, ◌++◌, not, filter}
-use Rattle.board_items.specs.Moves.{is_note}
-use Rattle.board_items.specs.Walks.{unit_left}
+use Rattle.board_items.specs.ItemMoves.{is_note}
+use Rattle.board_items.specs.BoardIterators.{unit_left}
 use Rattle.board_edits.specs.Making.{ids_of}
 use Rattle.board_edits.proofs.touching.moving_in.Given as goal
 

@@ -1,4 +1,4 @@
-use Rattle.board_items.specs.Walks.{items_left}
+use Rattle.board_items.specs.BoardIterators.{items_left}
 use Rattle.board_index.proofs.Holding.{held_all, next_absent, held_more, held_skip}
 use Rattle.board_index.proofs.index.index_of.Goals as goal
 

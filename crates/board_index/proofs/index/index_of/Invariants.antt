@@ -1,4 +1,4 @@
-use Rattle.board_items.specs.Walks.{items_left}
+use Rattle.board_items.specs.BoardIterators.{items_left}
 use Rattle.board_index.proofs.Holding.{IsHeld}
 use Rattle.board_index.proofs.index.index_of.Given as goal
 

@@ -1,7 +1,7 @@
 use Rattle.std.proofs.Common.{◌≡◌, ◌∙◌, ap, sym, subst, ℕ, List, [], ◌∷◌, ◌++◌, nat_eq, append_assoc}
 use Rattle.indexmap.proofs.CallerLemmas.{insert_entry-new}
 use Rattle.board_items.specs.Boards.{AreDistinct}
-use Rattle.board_items.specs.Walks.{nets_left}
+use Rattle.board_items.specs.BoardIterators.{nets_left}
 use Rattle.board_items.proofs.Copies.{absent_before}
 use Rattle.board_items.proofs.copying.copy_nets.Goals as goal
 

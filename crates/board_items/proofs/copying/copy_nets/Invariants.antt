@@ -1,5 +1,5 @@
 use Rattle.std.proofs.Common.{◌≡◌, ◌++◌}
-use Rattle.board_items.specs.Walks.{nets_left}
+use Rattle.board_items.specs.BoardIterators.{nets_left}
 use Rattle.board_items.proofs.copying.copy_nets.Given as goal
 
 abbrev pub invariant-loop-net : goal.invariant-loop-net

@@ -1,5 +1,5 @@
 use Rattle.std.proofs.Common.{subst}
-use Rattle.board_items.specs.Parts.{hole_parts, kind_parts, FirstHasPoints}
+use Rattle.board_items.specs.ItemParts.{hole_parts, kind_parts, FirstHasPoints}
 use Rattle.board_items.proofs.MovedApart.{first_of_both}
 use Rattle.board_items.proofs.moves.first_has_points.Goals as goal
 

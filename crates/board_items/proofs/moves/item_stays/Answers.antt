@@ -2,7 +2,7 @@ use Rattle.std.proofs.Common.{pos, ◌*ℤ◌, ◌&&◌, sym, ◌∙◌, ap}
 use Rattle.std.specs.List.{list_all}
 use Rattle.geo_seg.specs.declared.shifts.Shift.{Shift}
 use Rattle.geo_seg.specs.Shifts.{core_stays}
-use Rattle.board_items.specs.Parts.{parts_of}
+use Rattle.board_items.specs.ItemParts.{parts_of}
 use Rattle.board_items.proofs.Moving.{item_small}
 use Rattle.board_items.proofs.moves.item_stays.Goals as goal
 

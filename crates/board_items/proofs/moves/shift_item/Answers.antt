@@ -3,9 +3,9 @@ use Rattle.std.specs.List.{list_all}
 use Rattle.geo_seg.specs.declared.shifts.Shift.{Shift}
 use Rattle.geo_seg.specs.Shifts.{core_stays}
 use Rattle.board_items.specs.declared.parts.Part.{Part}
-use Rattle.board_items.specs.Parts.{hole_parts, kind_parts}
-use Rattle.board_items.specs.Moves.{AreShifted, HoleIsShifted, KindIsShifted}
-use Rattle.board_items.proofs.Moving.{all_parts, new_x, new_y, list_all_front, list_all_back, lengths_moved, small_dx, small_dy}
+use Rattle.board_items.specs.ItemParts.{hole_parts, kind_parts}
+use Rattle.board_items.specs.ItemMoves.{AreShifted, HoleIsShifted, KindIsShifted}
+use Rattle.board_items.proofs.Moving.{all_parts, new_x, new_y, list_all_prefix, list_all_back, lengths_moved, small_dx, small_dy}
 use Rattle.board_items.proofs.moves.shift_item.Goals as goal
 
 pub doubled-by-requires-clause-dx : goal.doubled-by-requires-clause-dx
@@ -18,13 +18,13 @@ pub shift-requires : goal.shift-requires
 shift-requires c =
     let item = c.args.item.now in
     subst (λ (s : Shift). list_all (λ (part : Part). core_stays s.dx s.dy part.shape.core) item.copper ≡ true) (sym c.doubled-by.ensures)
-    (list_all_front _ item.copper (hole_parts item.hole ++ kind_parts item.what) (all_parts c.args.step.dx c.args.step.dy item c.requires.on_board c.requires.stays))
+    (list_all_prefix _ item.copper (hole_parts item.hole ++ kind_parts item.what) (all_parts c.args.step.dx c.args.step.dy item c.requires.on_board c.requires.stays))
 
 pub shift_hole-requires : goal.shift_hole-requires
 shift_hole-requires c =
     let item = c.args.item.now in
     subst (λ (s : Shift). list_all (λ (part : Part). core_stays s.dx s.dy part.shape.core) (hole_parts item.hole) ≡ true) (sym c.doubled-by.ensures)
-    (list_all_front _ (hole_parts item.hole) (kind_parts item.what) (list_all_back _ item.copper (hole_parts item.hole ++ kind_parts item.what) (all_parts c.args.step.dx c.args.step.dy item c.requires.on_board c.requires.stays)))
+    (list_all_prefix _ (hole_parts item.hole) (kind_parts item.what) (list_all_back _ item.copper (hole_parts item.hole ++ kind_parts item.what) (all_parts c.args.step.dx c.args.step.dy item c.requires.on_board c.requires.stays)))
 
 pub shift-requires-2 : goal.shift-requires-2
 shift-requires-2 c =

@@ -3,7 +3,7 @@ use Rattle.geo_seg.specs.Shifts.{core_stays}
 use Rattle.geo_seg.proofs.Rewritten.{not_yet, one_written, all_written}
 use Rattle.geo_seg.proofs.Shifted.{all_at}
 use Rattle.board_items.specs.declared.parts.Part.{Part}
-use Rattle.board_items.specs.Moves.{IsShiftedPart}
+use Rattle.board_items.specs.ItemMoves.{IsShiftedPart}
 use Rattle.board_items.proofs.moves.shift_parts.Goals as goal
 
 pub shift_part-requires : goal.shift_part-requires

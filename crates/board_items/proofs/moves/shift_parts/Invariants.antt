@@ -1,5 +1,5 @@
 use Rattle.geo_seg.proofs.Rewritten.{Rewritten}
-use Rattle.board_items.specs.Moves.{IsShiftedPart}
+use Rattle.board_items.specs.ItemMoves.{IsShiftedPart}
 use Rattle.board_items.proofs.moves.shift_parts.Given as goal
 
 abbrev pub invariant-loop-part : goal.invariant-loop-part

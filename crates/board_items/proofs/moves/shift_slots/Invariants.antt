@@ -1,6 +1,6 @@
 use Rattle.std.proofs.Common.{◌≡◌, length}
 use Rattle.geo_seg.proofs.Rewritten.{Rewritten}
-use Rattle.board_items.specs.Slots.{IsMovedSlot}
+use Rattle.board_items.specs.ItemSlots.{IsMovedSlot}
 use Rattle.board_items.proofs.moves.shift_slots.Given as goal
 
 abbrev pub invariant-loop-place : goal.invariant-loop-place

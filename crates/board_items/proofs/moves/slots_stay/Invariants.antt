@@ -1,6 +1,6 @@
 use Rattle.std.proofs.Common.{◌≡◌, length, drop}
 use Rattle.std.specs.List.{list_all}
-use Rattle.board_items.specs.Slots.{slot_stays}
+use Rattle.board_items.specs.ItemSlots.{slot_stays}
 use Rattle.board_items.proofs.moves.slots_stay.Given as goal
 
 abbrev pub invariant-loop-place : goal.invariant-loop-place

@@ -1,7 +1,7 @@
 use Rattle.std.proofs.Common.{◌≡◌, ◌<◌, ◌∙◌, ap, sym, subst, suc, ◌-◌, length, get_or, take, Option, arith}
 use Rattle.board_items.specs.declared.item.Item.{Item}
-use Rattle.board_items.specs.Slots.{present, IsUnitIn}
-use Rattle.board_items.specs.Notes.{only_body}
+use Rattle.board_items.specs.ItemSlots.{present, IsUnitIn}
+use Rattle.board_items.specs.ItemNotes.{only_body}
 use Rattle.board_items.proofs.NoteWalks.{bodies, last_of, begun, met, not_met, stopped}
 use Rattle.board_items.proofs.UnitRows.{as_many, unit_in}
 use Rattle.board_items.proofs.notes.last_body.Goals as goal

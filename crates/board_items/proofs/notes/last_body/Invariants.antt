@@ -1,6 +1,6 @@
 use Rattle.std.proofs.Common.{◌≡◌, ◌≤◌, take}
-use Rattle.board_items.specs.Slots.{present}
-use Rattle.board_items.specs.Notes.{body_before}
+use Rattle.board_items.specs.ItemSlots.{present}
+use Rattle.board_items.specs.ItemNotes.{body_before}
 use Rattle.board_items.proofs.NoteWalks.{bodies, last_of}
 use Rattle.board_items.proofs.notes.last_body.Given as goal
 

@@ -1,5 +1,5 @@
 use Rattle.std.proofs.Common.{◌≡◌, ◌+◌, length}
-use Rattle.board_items.specs.Slots.{present}
+use Rattle.board_items.specs.ItemSlots.{present}
 use Rattle.board_items.proofs.slots.next_full.Given as goal
 
 -- the slots that have passed are empty

@@ -1,5 +1,5 @@
 use Rattle.std.proofs.Common.{◌≡◌, ◌+◌, true, length}
-use Rattle.board_items.specs.Slots.{are_units_in, unit_items}
+use Rattle.board_items.specs.ItemSlots.{are_units_in, unit_items}
 use Rattle.board_items.proofs.slots.next_of_unit.Given as goal
 
 -- no slot that has passed holds an item of the unit

@@ -1,6 +1,6 @@
 use Rattle.std.proofs.Common.{◌≡◌}
 use Rattle.board_items.specs.Units.{has_body_named_otherwise}
-use Rattle.board_items.specs.Walks.{unit_left}
+use Rattle.board_items.specs.BoardIterators.{unit_left}
 use Rattle.board_items.proofs.units.has_body_named_otherwise.Given as goal
 
 -- none of those that have passed is one

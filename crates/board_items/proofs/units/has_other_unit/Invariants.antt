@@ -1,6 +1,6 @@
 use Rattle.std.proofs.Common.{◌≡◌}
 use Rattle.board_items.specs.Units.{has_other_unit}
-use Rattle.board_items.specs.Walks.{named_left}
+use Rattle.board_items.specs.BoardIterators.{named_left}
 use Rattle.board_items.proofs.units.has_other_unit.Given as goal
 
 -- none of those that have passed is one

@@ -1,5 +1,5 @@
-use Rattle.board_laws.proofs.Deeds as deeds
+use Rattle.board_laws.proofs.Operations as operations
 use Rattle.board_laws.proofs.laws.moved_back.Goals as goal
 
 pub returns : goal.returns
-returns c = deeds.moved_back
+returns c = operations.moved_back

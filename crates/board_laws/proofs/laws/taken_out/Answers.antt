@@ -1,5 +1,5 @@
-use Rattle.board_laws.proofs.Deeds as deeds
+use Rattle.board_laws.proofs.Operations as operations
 use Rattle.board_laws.proofs.laws.taken_out.Goals as goal
 
 pub returns : goal.returns
-returns c = deeds.taken_out
+returns c = operations.taken_out

@@ -1,10 +1,10 @@
 use Rattle.std.proofs.Common.{◌≡◌, ◌∙◌, sym, ap, ℤ, true, List, ◌∷◌, Option, option_map, arith}
 use Rattle.sexpr_read.specs.Tree.{Tree, parts, value}
-use Rattle.sexpr_read.specs.Views.{tree_of, trees_left}
-use Rattle.roundtrip_lists.specs.Alike.{is_place_head, both}
+use Rattle.sexpr_read.specs.TreeViews.{tree_of, trees_left}
+use Rattle.roundtrip_lists.specs.Translated.{is_place_head, both}
 use Rattle.board_write.specs.declared.places.Number.{Number}
 use Rattle.board_write.specs.Marks.{plain_shift}
-use Rattle.board_write.specs.Places.{atom_moved}
+use Rattle.board_write.specs.MovedPlaces.{atom_moved}
 use Rattle.board_write.proofs.Groves.{moved_is}
 use Rattle.board_write.proofs.Standing.{wide, stand_by}
 use Rattle.board_write.proofs.places.place_of.Goals as goal

@@ -1,7 +1,7 @@
 use Rattle.std.proofs.Common.{◌≡◌, ◌∙◌, ◌+◌, sym, ap, subst, List, ◌∷◌, drop}
 use Rattle.std.proofs.lemmas.List.{drop_more}
-use Rattle.board_write.specs.declared.course.AddedList.{AddedList}
-use Rattle.board_write.specs.Fates.{IsAlone}
+use Rattle.board_write.specs.declared.edit_state.AddedList.{AddedList}
+use Rattle.board_write.specs.Dispositions.{IsAlone}
 use Rattle.board_write.proofs.Editing.{past_added}
 use Rattle.board_write.proofs.root.append_added.Goals as goal
 

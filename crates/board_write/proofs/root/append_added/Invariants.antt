@@ -1,6 +1,6 @@
 use Rattle.std.proofs.Common.{◌≡◌, ◌++◌, false, drop}
-use Rattle.roundtrip_text.specs.Anew.{spaced}
-use Rattle.board_write.specs.Fates.{added_by}
+use Rattle.roundtrip_text.specs.RewrittenText.{spaced}
+use Rattle.board_write.specs.Dispositions.{added_by}
 use Rattle.board_write.proofs.root.append_added.Given as goal
 
 -- what was written, and what is still to come, is all

@@ -1,5 +1,5 @@
-use Rattle.sexpr_read.specs.Views.{tree_of}
-use Rattle.board_write.proofs.Fronts.{on_ok}
+use Rattle.sexpr_read.specs.TreeViews.{tree_of}
+use Rattle.board_write.proofs.Prefixes.{on_ok}
 use Rattle.board_write.proofs.Editing.{added_piece}
 use Rattle.board_write.proofs.root.append_spaced.Goals as goal
 

@@ -1,5 +1,5 @@
-use Rattle.sexpr_read.specs.Views.{tree_of, trees_left}
-use Rattle.board_write.proofs.Fronts.{on_ok}
+use Rattle.sexpr_read.specs.TreeViews.{tree_of, trees_left}
+use Rattle.board_write.proofs.Prefixes.{on_ok}
 use Rattle.board_write.proofs.SetDown.{list_whole}
 use Rattle.board_write.proofs.setting.append_list.Goals as goal
 

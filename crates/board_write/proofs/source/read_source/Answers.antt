@@ -1,5 +1,5 @@
 use Rattle.std.proofs.lemmas.Result.{err_from_is_err_and}
-use Rattle.sexpr_read.specs.Views.{root_of}
+use Rattle.sexpr_read.specs.TreeViews.{root_of}
 use Rattle.board_write.proofs.Sourcing.{tree_refused, exit_refused, read_not_refused}
 use Rattle.board_write.proofs.source.read_source.Goals as goal
 

@@ -1,7 +1,7 @@
 use Rattle.std.proofs.Common.{◌≡◌, ◌⊎◌, inl, inr, ◌∙◌, sym, subst, ℕ, ◌+◌, ◌-◌, ◌*◌, ◌<◌, ◌≤◌, List, ◌++◌, slice_index_or, replicate, arith}
 use Rattle.std.proofs.lemmas.Bool.{cases_lt}
 use Rattle.std.proofs.lemmas.List.{get_or_append_left, get_or-append_right, get_or-replicate, length-append, length-replicate}
-use Rattle.box_index.specs.Walks.{IsFilled}
+use Rattle.box_index.specs.AreaWalks.{IsFilled}
 use Rattle.box_index.proofs.fills.filled.Goals as goal
 
 module _ {X : Type 0} (n k : ℕ) (x : X) (xs : List X) (h : IsFilled n x xs) where

@@ -1,5 +1,5 @@
 use Rattle.std.proofs.Common.{◌*◌}
-use Rattle.box_index.specs.Walks.{IsFilled}
+use Rattle.box_index.specs.AreaWalks.{IsFilled}
 use Rattle.box_index.proofs.fills.filled.Given as goal
 
 abbrev pub invariant-loop : goal.invariant-loop

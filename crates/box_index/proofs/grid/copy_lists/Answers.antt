@@ -2,7 +2,7 @@ use Rattle.std.proofs.Common.{◌∙◌, ap, take, subst, sym, List, [], ◌∷�
 use Rattle.std.specs.List.{AllZip}
 use Rattle.std.proofs.lemmas.List.{take_more}
 use Rattle.box_index.specs.declared.shared.Shared.{Shared}
-use Rattle.box_index.specs.Shares.{IsEqual}
+use Rattle.box_index.specs.SharedLists.{IsEqual}
 use Rattle.box_index.proofs.grid.copy_lists.Goals as goal
 
 pub loop-list-preserved : goal.loop-list-preserved

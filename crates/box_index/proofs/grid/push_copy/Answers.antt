@@ -2,7 +2,7 @@ use Rattle.std.proofs.Common.{subst, sym, List, [], ◌∷◌, ◌++◌}
 use Rattle.std.specs.List.{AllZip}
 use Rattle.std.proofs.lemmas.List.Elements.{AllZip-push}
 use Rattle.box_index.specs.declared.shared.Shared.{Shared}
-use Rattle.box_index.specs.Shares.{IsEqual}
+use Rattle.box_index.specs.SharedLists.{IsEqual}
 use Rattle.box_index.proofs.grid.push_copy.Goals as goal
 
 pub returns : goal.returns

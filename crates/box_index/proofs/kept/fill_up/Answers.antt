@@ -1,7 +1,7 @@
 use Rattle.std.proofs.Common.{◌∙◌, ap, length, Option, arith}
 use Rattle.std.proofs.lemmas.List.{length-append}
 use Rattle.box_index.specs.declared.kept.Sides.{Sides}
-use Rattle.box_index.specs.Kept.{entries_of}
+use Rattle.box_index.specs.BoxSlots.{entries_of}
 use Rattle.box_index.proofs.KeptLemmas.{still}
 use Rattle.box_index.proofs.kept.fill_up.Goals as goal
 

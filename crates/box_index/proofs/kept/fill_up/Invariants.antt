@@ -1,5 +1,5 @@
 use Rattle.std.proofs.Common.{◌≡◌, ℕ, ◌-◌, ◌≤◌, length}
-use Rattle.box_index.specs.Kept.{entries_of}
+use Rattle.box_index.specs.BoxSlots.{entries_of}
 use Rattle.box_index.proofs.kept.fill_up.Given as goal
 
 abbrev pub invariant-fill : goal.invariant-fill

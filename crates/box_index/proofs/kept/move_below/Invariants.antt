@@ -1,5 +1,5 @@
 use Rattle.std.proofs.Common.{◌≡◌, ◌≤◌, length}
-use Rattle.box_index.specs.Kept.{all_entries, AreFar}
+use Rattle.box_index.specs.BoxSlots.{all_entries, AreFar}
 use Rattle.box_index.proofs.kept.move_below.Given as goal
 
 abbrev pub invariant-moves : goal.invariant-moves

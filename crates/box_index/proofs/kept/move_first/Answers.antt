@@ -2,7 +2,7 @@ use Rattle.std.proofs.Common.{◌∙◌, ◌++◌, ap, Option, length, arith}
 use Rattle.std.proofs.lemmas.List.{length-append}
 use Rattle.std.proofs.lemmas.Option.{slice_get_within}
 use Rattle.box_index.specs.declared.kept.Sides.{Sides}
-use Rattle.box_index.specs.Kept.{far_entries}
+use Rattle.box_index.specs.BoxSlots.{far_entries}
 use Rattle.box_index.proofs.FarLemmas.{first_far, first_past, popped, rest_far, moved}
 use Rattle.box_index.proofs.kept.move_first.Goals as goal
 

@@ -1,7 +1,7 @@
 use Rattle.std.proofs.Common.{◌∙◌, ◌++◌, ap, List, length, arith}
 use Rattle.std.proofs.lemmas.Result.{on_ok_weaker}
 use Rattle.box_index.specs.declared.entry.Entry.{Entry}
-use Rattle.box_index.specs.Kept.{entry_of, entries_of, far_entries}
+use Rattle.box_index.specs.BoxSlots.{entry_of, entries_of, far_entries}
 use Rattle.box_index.proofs.FarLemmas.{near_placed, behind_placed, placed_far, far_sooner}
 use Rattle.box_index.proofs.kept.put_either.Goals as goal
 

@@ -1,5 +1,5 @@
 use Rattle.std.proofs.Common.{◌∙◌, ap}
-use Rattle.box_index.specs.Kept.{far_entries}
+use Rattle.box_index.specs.BoxSlots.{far_entries}
 use Rattle.box_index.proofs.FarLemmas.{far_placed}
 use Rattle.box_index.proofs.kept.put_far.Goals as goal
 

@@ -2,7 +2,7 @@ use Rattle.std.proofs.Common.{◌∙◌, ap, sym, subst, set, Option}
 use Rattle.geo_seg.specs.declared.boxes.Bounds.{Bounds}
 use Rattle.box_index.specs.declared.kept.Sides.{Sides}
 use Rattle.box_index.specs.Cuts.{IsCut}
-use Rattle.box_index.specs.Kept.{entry_of, entries_of}
+use Rattle.box_index.specs.BoxSlots.{entry_of, entries_of}
 use Rattle.box_index.proofs.KeptLemmas.{take_slot, cut_slot, none_slot}
 use Rattle.box_index.proofs.kept.take.Goals as goal
 

@@ -2,7 +2,7 @@ use Rattle.std.proofs.Common.{◌∙◌, ap, sym, subst, ℕ, List}
 use Rattle.geo_seg.specs.declared.boxes.Bounds.{Bounds}
 use Rattle.box_index.specs.declared.kept.Sides.{Sides}
 use Rattle.box_index.specs.Cuts.{IsCut}
-use Rattle.box_index.specs.Kept.{entry_of, far_entries}
+use Rattle.box_index.specs.BoxSlots.{entry_of, far_entries}
 use Rattle.box_index.proofs.FarLemmas.{far_without, far_cut}
 use Rattle.box_index.proofs.kept.take_far.Goals as goal
 

@@ -1,5 +1,5 @@
 use Rattle.std.proofs.Common.{arith}
-use Rattle.box_index.proofs.Fronts.{front_then}
+use Rattle.box_index.proofs.Prefixes.{prefix_then}
 use Rattle.box_index.proofs.Reaching.{walk_more, walk_done}
 use Rattle.box_index.proofs.near.push_ids_near.Goals as goal
 
@@ -8,7 +8,7 @@ tiles-preserved c = record {
   walked =
       walk_more c.args.index.now c.area-area.result c.args.bounds c.args.ids.now.items c.tiles.ids.items c.push_tile.new.ids.items c.tiles.tile c.tiles.invariant.walked c.in_ok-push_tile.ensures.reached
       c.after-tile.result c.after-tile.ensures.rises c.after-tile.ensures.none_between c.after-tile.ensures.inside;
-  front = front_then c.args.ids.now.items c.tiles.ids.items c.push_tile.new.ids.items c.tiles.invariant.front c.push_tile.ensures.front;
+  prefix = prefix_then c.args.ids.now.items c.tiles.ids.items c.push_tile.new.ids.items c.tiles.invariant.prefix c.push_tile.ensures.prefix;
 }
 
 pub returns-clause-reached : goal.returns-clause-reached

@@ -6,7 +6,7 @@ use Rattle.box_index.proofs.near.push_ids_near.Given as goal
 abbrev pub invariant-tiles : goal.invariant-tiles
 invariant-tiles l = record {
   walked : IsWalked l.index l.area l.bounds l.fn.ids.items l.ids.items l.tile;
-  front : BeginsWith l.fn.ids.items l.ids.items;
+  prefix : BeginsWith l.fn.ids.items l.ids.items;
 }
 
 abbrev pub decreases-tiles : goal.decreases-tiles

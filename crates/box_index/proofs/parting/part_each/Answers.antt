@@ -3,7 +3,7 @@ use Rattle.std.proofs.lemmas.Bool.{cases_order}
 use Rattle.box_index.specs.declared.area.Area.{Area}
 use Rattle.box_index.specs.declared.shared.Shared.{Shared}
 use Rattle.box_index.specs.Areas.{has_tile}
-use Rattle.box_index.specs.Shares.{AreHomed, HasMoved, IsReady, list_at}
+use Rattle.box_index.specs.SharedLists.{AreHomed, HasMoved, IsReady, list_at}
 use Rattle.box_index.proofs.Buckets.{has_within}
 use Rattle.box_index.proofs.Grids.{moved_homed, moved_shared, moved_ready}
 use Rattle.box_index.proofs.parting.part_each.Goals as goal

@@ -3,7 +3,7 @@ use Rattle.std.proofs.lemmas.List.{get_or_read}
 use Rattle.box_index.specs.declared.area.Area.{Area}
 use Rattle.box_index.specs.declared.shared.Shared.{Shared}
 use Rattle.box_index.specs.Areas.{has_tile}
-use Rattle.box_index.specs.Shares.{AreShared, IsAlike}
+use Rattle.box_index.specs.SharedLists.{AreShared, HasSameEntries}
 use Rattle.box_index.proofs.Buckets.{has_within}
 use Rattle.box_index.proofs.Ones.{one_shared}
 use Rattle.box_index.proofs.parting.part_one.Goals as goal
@@ -22,6 +22,6 @@ returns-clause-shared c near k =
     let to : c.in-Ok.to ≡ length lists = omega (arith, c.in-Ok.ensures, c.len.ensures) in
     subst (λ (ls : List Shared). AreShared near c.fill_area.new.values ls) (sym c.in_ok-push.ensures.items)
     (one_shared area tiles c.fill_area.new.values lists made c.in-Ok.to first to c.requires.homed c.requires.even has c.fill_area.ensures
-    (λ s. subst (λ (l : Shared). IsAlike l made) (at s) c.in_ok-made.ensures.alike)
+    (λ s. subst (λ (l : Shared). HasSameEntries l made) (at s) c.in_ok-made.ensures.alike)
     (λ tile s t u. subst (λ (a : Area). has_tile a tile ≡ true) (sym c.in_ok-made.ensures.home) (c.common.ensures.all tile (subst (λ (l : Shared). has_tile l.home tile ≡ true) (sym (at s)) t) u))
     near k)

@@ -3,13 +3,13 @@ use Rattle.std.specs.Prelude.{Option, IfSome}
 use Rattle.std.proofs.lemmas.List.{get_or_default, get_or_read}
 use Rattle.box_index.specs.declared.parting.Parted.{Parted}
 use Rattle.box_index.specs.declared.shared.Shared.{Shared}
-use Rattle.box_index.specs.Shares.{AreHomed, HasMoved, HasRoom, IsEqual, IsParted}
-use Rattle.box_index.proofs.Grids.{moved_roomy, stay_roomy, parted_still}
+use Rattle.box_index.specs.SharedLists.{AreHomed, HasMoved, HasCapacity, IsEqual, IsParted}
+use Rattle.box_index.proofs.Grids.{moved_with_capacity_left, stay_with_capacity_left, parted_still}
 use Rattle.box_index.proofs.parting.part_tile.Goals as goal
 use Rattle.box_index.proofs.parting.part_tile.Goals.{in-Some+else-take_made, in_default}
 
-pub returns-in_err-make_room-clause-moved : goal.returns-in_err-make_room-clause-moved
-returns-in_err-make_room-clause-moved c =
+pub returns-in_err-reserve_one-clause-moved : goal.returns-in_err-reserve_one-clause-moved
+returns-in_err-reserve_one-clause-moved c =
     let tile = c.args.tile in
     let lists = c.args.lists.now.items in
     let tiles = c.match-parted.tiles in
@@ -18,10 +18,10 @@ returns-in_err-make_room-clause-moved c =
     let n = slice_index_or tiles tile 0 in
     let low : n < length lists = homed.within tile 0 c.requires.within in
     let at = λ (s : Shared). sym (get_or_read lists n c.index_mut.result.now low c.index_mut.ensures.value s) in
-    subst (λ (ts : List ℕ). HasMoved tile ts lists tiles (slice_set lists n c.make_room.new.self)) same
-    (moved_roomy tile tiles lists homed c.requires.within n (λ d. get_or_default tiles tile d 0 (let e = homed.long in let l = c.requires.within in omega (arith, e, l))) c.make_room.new.self
-    (λ s. subst (λ (l : Shared). IsEqual l c.make_room.new.self) (sym (at s)) c.make_room.ensures.same)
-    (λ s r. c.make_room.ensures.kept (subst HasRoom (at s) r)))
+    subst (λ (ts : List ℕ). HasMoved tile ts lists tiles (slice_set lists n c.reserve_one.new.self)) same
+    (moved_with_capacity_left tile tiles lists homed c.requires.within n (λ d. get_or_default tiles tile d 0 (let e = homed.long in let l = c.requires.within in omega (arith, e, l))) c.reserve_one.new.self
+    (λ s. subst (λ (l : Shared). IsEqual l c.reserve_one.new.self) (sym (at s)) c.reserve_one.ensures.same)
+    (λ s r. c.reserve_one.ensures.kept (subst HasCapacity (at s) r)))
 
 pub returns-then-lies_in-clause-moved : goal.returns-then-lies_in-clause-moved
 returns-then-lies_in-clause-moved c =
@@ -33,10 +33,10 @@ returns-then-lies_in-clause-moved c =
     let n = slice_index_or tiles tile 0 in
     let low : n < length lists = homed.within tile 0 c.requires.within in
     let at = λ (s : Shared). sym (get_or_read lists n c.index_mut.result.now low c.index_mut.ensures.value s) in
-    subst (λ (ts : List ℕ). HasMoved tile ts lists tiles (slice_set lists n c.make_room.new.self)) same
-    (moved_roomy tile tiles lists homed c.requires.within n (λ d. get_or_default tiles tile d 0 (let e = homed.long in let l = c.requires.within in omega (arith, e, l))) c.make_room.new.self
-    (λ s. subst (λ (l : Shared). IsEqual l c.make_room.new.self) (sym (at s)) c.make_room.ensures.same)
-    (λ s r. c.make_room.ensures.kept (subst HasRoom (at s) r)))
+    subst (λ (ts : List ℕ). HasMoved tile ts lists tiles (slice_set lists n c.reserve_one.new.self)) same
+    (moved_with_capacity_left tile tiles lists homed c.requires.within n (λ d. get_or_default tiles tile d 0 (let e = homed.long in let l = c.requires.within in omega (arith, e, l))) c.reserve_one.new.self
+    (λ s. subst (λ (l : Shared). IsEqual l c.reserve_one.new.self) (sym (at s)) c.reserve_one.ensures.same)
+    (λ s r. c.reserve_one.ensures.kept (subst HasCapacity (at s) r)))
 
 pub returns-then-lies_in-clause-parted : goal.returns-then-lies_in-clause-parted
 returns-then-lies_in-clause-parted c =
@@ -49,10 +49,10 @@ returns-then-lies_in-clause-parted c =
     let low : n < length lists = homed.within tile 0 c.requires.within in
     let at = λ (s : Shared). sym (get_or_read lists n c.index_mut.result.now low c.index_mut.ensures.value s) in
     let last : c.match-parted.parted ≡ c.args.parted = elim c.match-parted.branch [ in-Some+else-take_made w ↦ w.parted-is ∙ sym w.in-Some.is | in_default w ↦ w.parted-is ] in
-    parted_still c.args.area c.match-parted.parted lists (slice_set lists n c.make_room.new.self)
-    (stay_roomy tile tiles lists homed c.requires.within n (λ d. get_or_default tiles tile d 0 (let e = homed.long in let l = c.requires.within in omega (arith, e, l))) c.make_room.new.self
-    (λ s. subst (λ (l : Shared). IsEqual l c.make_room.new.self) (sym (at s)) c.make_room.ensures.same)
-    (λ s r. c.make_room.ensures.kept (subst HasRoom (at s) r))) (subst (λ (p : Option Parted). IfSome p (λ q. IsParted c.args.area q lists)) (sym last) c.requires.parted)
+    parted_still c.args.area c.match-parted.parted lists (slice_set lists n c.reserve_one.new.self)
+    (stay_with_capacity_left tile tiles lists homed c.requires.within n (λ d. get_or_default tiles tile d 0 (let e = homed.long in let l = c.requires.within in omega (arith, e, l))) c.reserve_one.new.self
+    (λ s. subst (λ (l : Shared). IsEqual l c.reserve_one.new.self) (sym (at s)) c.reserve_one.ensures.same)
+    (λ s r. c.reserve_one.ensures.kept (subst HasCapacity (at s) r))) (subst (λ (p : Option Parted). IfSome p (λ q. IsParted c.args.area q lists)) (sym last) c.requires.parted)
 
 pub make_list-requires-clause-homed : goal.make_list-requires-clause-homed
 make_list-requires-clause-homed c =

@@ -1,5 +1,5 @@
 use Rattle.std.proofs.Common.{◌≡◌, ◌-◌}
-use Rattle.box_index.specs.Walks.{IsWalked}
+use Rattle.box_index.specs.AreaWalks.{IsWalked}
 use Rattle.box_index.proofs.walks.fill_area.Given as goal
 
 abbrev pub invariant-tiles : goal.invariant-tiles

@@ -3,7 +3,7 @@ use Rattle.std.proofs.lemmas.List.{get_or_default}
 use Rattle.box_index.specs.declared.shared.Shared.{Shared}
 use Rattle.box_index.specs.Areas.{has_tile}
 use Rattle.box_index.specs.Tiles.{tile_count}
-use Rattle.box_index.specs.Shares.{IsTaken}
+use Rattle.box_index.specs.SharedLists.{IsEntryRemoved}
 use Rattle.box_index.proofs.Buckets.{has_within}
 use Rattle.box_index.proofs.Grids.{changed_more}
 use Rattle.box_index.proofs.Changed.{taken_rising, taken_once, changed_all}
@@ -27,13 +27,13 @@ tiles-preserved c =
     let low : tile < tile_count = has_within c.args.area tile has in
     let within = c.requires.homed.within tile 0 low in
     let taken = taken_once c.args.id (slice_index_or old n s) (slice_index_or c.tiles.lists n s) c.take_out.new.self (c.tiles.invariant.each n s) c.take_out.ensures in
-    changed_more (IsTaken c.args.id) (λ (list : Shared). Unit {0}) c.args.area tiles old c.tiles.lists tile c.after-tile.result c.tiles.invariant n
+    changed_more (IsEntryRemoved c.args.id) (λ (list : Shared). Unit {0}) c.args.area tiles old c.tiles.lists tile c.after-tile.result c.tiles.invariant n
     (λ d. get_or_default tiles tile d 0 (let e = c.requires.homed.long in omega (arith, e, low)))
     (let e = c.tiles.invariant.long in omega (arith, e, within)) c.take_out.new.self
     (λ t. tt)
-    (λ t. subst (λ (l : Shared). IsTaken c.args.id l c.take_out.new.self) (get_or_default old n s t within) taken)
+    (λ t. subst (λ (l : Shared). IsEntryRemoved c.args.id l c.take_out.new.self) (get_or_default old n s t within) taken)
     (λ other l m t. let never : true ≡ false = sym t ∙ c.after-tile.ensures.none_between other l m in cc)
     c.after-tile.ensures.inside
 
 pub returns : goal.returns
-returns c = changed_all (IsTaken c.args.id) (λ (list : Shared). Unit {0}) c.args.area c.args.tiles.now c.args.lists.now c.tiles.lists c.tiles.tile c.args.end c.tiles.invariant c.tiles-test.false c.requires.all
+returns c = changed_all (IsEntryRemoved c.args.id) (λ (list : Shared). Unit {0}) c.args.area c.args.tiles.now c.args.lists.now c.tiles.lists c.tiles.tile c.args.end c.tiles.invariant c.tiles-test.false c.requires.all

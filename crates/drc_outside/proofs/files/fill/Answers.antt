@@ -7,11 +7,11 @@ use Rattle.drc_outside.proofs.files.fill.Goals.{in-Ok, in-Err}
 
 pub loop-preserved : goal.loop-preserved
 loop-preserved g c =
-    let Front = λ (k : ℕ). Consumes (g.F.Read.remaining c.args.file.now) (g.F.Read.remaining c.read.new.self) (take k (put_mid c.loop.done (length c.loop.buf - c.loop.done) c.loop.buf c.read.new.buf)) in
+    let Prefix = λ (k : ℕ). Consumes (g.F.Read.remaining c.args.file.now) (g.F.Read.remaining c.read.new.self) (take k (put_mid c.loop.done (length c.loop.buf - c.loop.done) c.loop.buf c.read.new.buf)) in
     record {
       within = elim c.match-read.branch [ in-Ok w ↦ search rules | in-Err w ↦ search rules ];
       bytes = elim c.match-read.branch [
-        | in-Ok w ↦ subst Front (sym w.done-is) (Consumes-piece _ _ _ _ _ _ _ _ c.loop.invariant.within w.in-Ok.ensures.bound.0 c.loop.invariant.bytes w.in-Ok.ensures.bytes.0)
-        | in-Err w ↦ subst Front (sym w.done-is) (Consumes-none _ _ _ _ _ _ _ c.loop.invariant.within c.loop.invariant.bytes w.in-Err.ensures.bytes)
+        | in-Ok w ↦ subst Prefix (sym w.done-is) (Consumes-piece _ _ _ _ _ _ _ _ c.loop.invariant.within w.in-Ok.ensures.bound.0 c.loop.invariant.bytes w.in-Ok.ensures.bytes.0)
+        | in-Err w ↦ subst Prefix (sym w.done-is) (Consumes-none _ _ _ _ _ _ _ c.loop.invariant.within c.loop.invariant.bytes w.in-Err.ensures.bytes)
       ];
     }

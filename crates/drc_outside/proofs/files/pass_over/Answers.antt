@@ -1,5 +1,5 @@
 use Rattle.std.proofs.Common.{◌-◌, ◌+◌, ◌≡◌, ◌≤◌, ℕ, arith, subst, length-take}
-use Rattle.drc_outside.specs.Standing.{Passes}
+use Rattle.drc_outside.specs.FilePositions.{Passes}
 use Rattle.drc_outside.proofs.Passing.{Passes-more, Passes-end}
 use Rattle.drc_outside.proofs.files.pass_over.Goals as goal
 

@@ -1,5 +1,5 @@
 use Rattle.std.proofs.Common.{◌≤◌, ◌-◌}
-use Rattle.drc_outside.specs.Standing.{Passes}
+use Rattle.drc_outside.specs.FilePositions.{Passes}
 use Rattle.drc_outside.proofs.files.pass_over.Given as goal
 
 abbrev pub invariant-loop-left : goal.invariant-loop-left

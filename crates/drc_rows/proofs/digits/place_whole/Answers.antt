@@ -11,18 +11,18 @@ three n low high =
     let tens : n % 100 / 10 ≡ n / 10 % 10 = omega arith in
     let ones : n % 100 % 10 ≡ n % 10 = omega arith in
     let hundreds : n / 10 / 10 ≡ n / 100 = omega arith in
-    let front : decimal (n / 10) ≡ (48 + n / 100) ∷ (48 + n / 10 % 10) ∷ [] = rw (← hundreds) (sym (two (n / 10) (omega arith) (omega arith))) in
-    rw (tens, ones) (sym (decimal_step n (omega arith) (omega arith) ∙ ap (λ l. l ++ ((48 + n % 10) ∷ [])) front))
+    let prefix : decimal (n / 10) ≡ (48 + n / 100) ∷ (48 + n / 10 % 10) ∷ [] = rw (← hundreds) (sym (two (n / 10) (omega arith) (omega arith))) in
+    rw (tens, ones) (sym (decimal_step n (omega arith) (omega arith) ∙ ap (λ l. l ++ ((48 + n % 10) ∷ [])) prefix))
 
-pub returns-then-n-lt10-clause-front : goal.returns-then-n-lt10-clause-front
-returns-then-n-lt10-clause-front c = c.place.ensures.front ∙ ap (λ l. take c.args.at c.args.bytes.now ++ l) (sym (decimal_digit c.args.n (omega arith)))
+pub returns-then-n-lt10-clause-prefix : goal.returns-then-n-lt10-clause-prefix
+returns-then-n-lt10-clause-prefix c = c.place.ensures.prefix ∙ ap (λ l. take c.args.at c.args.bytes.now ++ l) (sym (decimal_digit c.args.n (omega arith)))
 
-pub returns-then-n-lt100-clause-front : goal.returns-then-n-lt100-clause-front
-returns-then-n-lt100-clause-front c =
-    c.place-then-n-lt100.ensures.front ∙ ap (λ l. take c.args.at c.args.bytes.now ++ l) (c.pair.ensures ∙ two c.args.n (omega arith) (omega arith))
+pub returns-then-n-lt100-clause-prefix : goal.returns-then-n-lt100-clause-prefix
+returns-then-n-lt100-clause-prefix c =
+    c.place-then-n-lt100.ensures.prefix ∙ ap (λ l. take c.args.at c.args.bytes.now ++ l) (c.pair.ensures ∙ two c.args.n (omega arith) (omega arith))
 
-pub returns-clause-front : goal.returns-clause-front
-returns-clause-front c =
-    let front = take c.args.at c.args.bytes.now in
+pub returns-clause-prefix : goal.returns-clause-prefix
+returns-clause-prefix c =
+    let prefix = take c.args.at c.args.bytes.now in
     let n = c.args.n in
-    c.place-2.ensures.front ∙ (ap (λ p. front ++ ((48 + n / 100) ∷ get_or p 0 0 ∷ get_or p 1 0 ∷ [])) c.pair-2.ensures ∙ ap (λ l. front ++ l) (three n (omega arith) (omega arith)))
+    c.place-2.ensures.prefix ∙ (ap (λ p. prefix ++ ((48 + n / 100) ∷ get_or p 0 0 ∷ get_or p 1 0 ∷ [])) c.pair-2.ensures ∙ ap (λ l. prefix ++ l) (three n (omega arith) (omega arith)))

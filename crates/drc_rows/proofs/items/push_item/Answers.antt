@@ -1,6 +1,6 @@
 use Rattle.std.proofs.Common.{◌++◌, refl, arith, codes}
 use Rattle.std.proofs.lemmas.Result.{err_from_is_err_and}
-use Rattle.exact_dec.specs.Written.{mm_text}
+use Rattle.exact_dec.specs.MillimetreText.{mm_text}
 use Rattle.drc_rows.specs.Report.{title_of}
 use Rattle.int_algebra.proofs.Scalars.{passed_is}
 use Rattle.drc_rows.proofs.Scalars.{x_near, y_near, both_as}

@@ -1,7 +1,7 @@
 use Rattle.std.proofs.Common.{refl, ◌++◌, append_assoc, codes, decimal, length}
 use Rattle.std.proofs.lemmas.Result.{err_from_is_err_and}
 use Rattle.board_items.specs.Boards.{item_at}
-use Rattle.net_groups.specs.Classes.{least}
+use Rattle.net_groups.specs.ConnectedClasses.{least}
 use Rattle.drc_rows.specs.Report.{text_of}
 use Rattle.drc_rows.proofs.Lines.{Puts-then, Puts-cut}
 use Rattle.drc_rows.proofs.net.push_group.Goals as goal

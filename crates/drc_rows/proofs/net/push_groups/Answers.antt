@@ -1,6 +1,6 @@
 use Rattle.std.proofs.Common.{◌∙◌, ◌<◌, ℕ, List, length, All, sym, ap, subst, arith}
 use Rattle.std.proofs.lemmas.Result.{err_from_is_err_and}
-use Rattle.net_groups.specs.Groups.{IsOnBoard}
+use Rattle.net_groups.specs.NetGroups.{HasItem}
 use Rattle.drc_rows.specs.NetBlock.{group_line}
 use Rattle.drc_rows.proofs.Lines.{flat_more_at, flat_rest_at, Puts-then, Puts-cut, Puts-text}
 use Rattle.drc_rows.proofs.net.push_groups.Goals as goal
@@ -11,7 +11,7 @@ push_group-requires-clause-filled g c =
 
 pub push_group-requires-clause-placed : goal.push_group-requires-clause-placed
 push_group-requires-clause-placed g c =
-    subst (All (IsOnBoard c.args.board.now)) (sym (c.members.ensures ∙ c.group-item.is)) (c.requires.placed c.loop-group.group-index c.group-item.result (omega arith))
+    subst (All (HasItem c.args.board.now)) (sym (c.members.ensures ∙ c.group-item.is)) (c.requires.placed c.loop-group.group-index c.group-item.result (omega arith))
 
 pub returns-in_err-push_group : goal.returns-in_err-push_group
 returns-in_err-push_group g c =

@@ -1,6 +1,6 @@
 use Rattle.std.proofs.Common.{◌++◌, refl, codes}
 use Rattle.std.proofs.lemmas.Result.{err_from_is_err_and}
-use Rattle.exact_dec.specs.Written.{mm_text}
+use Rattle.exact_dec.specs.MillimetreText.{mm_text}
 use Rattle.drc_rows.specs.Report.{title_of}
 use Rattle.drc_rows.proofs.Lines.{Puts-then, Puts-cut, Puts-text}
 use Rattle.drc_rows.proofs.Reach.{reach_far, reach_fits}

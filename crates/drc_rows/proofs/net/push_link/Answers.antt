@@ -2,18 +2,18 @@ use Rattle.std.proofs.Common.{◌≡◌, ◌∙◌, ap, sym, subst, refl, ◌++�
 use Rattle.std.proofs.lemmas.Result.{err_from_is_err_and}
 use Rattle.ratsnest.specs.declared.anchor.Anchor.{Anchor}
 use Rattle.ratsnest.specs.NestOf.{nowhere, anchor_at}
-use Rattle.net_groups.specs.Groups.{IsOnBoard}
+use Rattle.net_groups.specs.NetGroups.{HasItem}
 use Rattle.drc_rows.specs.NetBlock.{ends_text, link_line}
 use Rattle.drc_rows.proofs.Lines.{Puts-then, Puts-cut, Puts-text}
 use Rattle.drc_rows.proofs.net.push_link.Goals as goal
 
 pub push_ends-requires-clause-first : goal.push_ends-requires-clause-first
 push_ends-requires-clause-first g c =
-    subst (λ (a : Anchor). IsOnBoard c.args.board.now a.id) (sym c.anchor_at-first.ensures) (c.requires.anchors c.args.link.first nowhere c.requires.places.0)
+    subst (λ (a : Anchor). HasItem c.args.board.now a.id) (sym c.anchor_at-first.ensures) (c.requires.anchors c.args.link.first nowhere c.requires.places.0)
 
 pub push_ends-requires-clause-second : goal.push_ends-requires-clause-second
 push_ends-requires-clause-second g c =
-    subst (λ (a : Anchor). IsOnBoard c.args.board.now a.id) (sym c.anchor_at-second.ensures) (c.requires.anchors c.args.link.second nowhere c.requires.places.1)
+    subst (λ (a : Anchor). HasItem c.args.board.now a.id) (sym c.anchor_at-second.ensures) (c.requires.anchors c.args.link.second nowhere c.requires.places.1)
 
 pub returns-in_err-push_number : goal.returns-in_err-push_number
 unfolding link_line

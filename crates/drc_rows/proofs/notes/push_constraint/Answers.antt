@@ -1,8 +1,8 @@
 use Rattle.std.proofs.Common.{◌≡◌, refl, ◌++◌, append_assoc, codes}
 use Rattle.std.proofs.lemmas.Result.{err_from_is_err_and}
-use Rattle.rule_text.specs.Views.{plain_rules}
+use Rattle.rule_text.specs.RuleValues.{plain_rules}
 use Rattle.drc_rows.specs.Buffer.{named}
-use Rattle.drc_rows.specs.Notes.{rule_name}
+use Rattle.drc_rows.specs.NoteLines.{rule_name}
 use Rattle.drc_rows.proofs.Lines.{Puts-then, Puts-cut, Puts-text}
 use Rattle.drc_rows.proofs.notes.push_constraint.Goals as goal
 

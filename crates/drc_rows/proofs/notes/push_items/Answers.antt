@@ -2,7 +2,7 @@ use Rattle.std.proofs.Common.{sym, arith, ap, ◌∙◌, ◌≤◌, length}
 use Rattle.std.specs.List.{flat_map}
 use Rattle.std.proofs.lemmas.List.{take_all}
 use Rattle.std.proofs.lemmas.Result.{err_from_is_err_and}
-use Rattle.drc_rows.specs.Notes.{note_line, item_lines}
+use Rattle.drc_rows.specs.NoteLines.{note_line, item_lines}
 use Rattle.drc_rows.proofs.Lines.{flat_more, flat_rest, Puts-then, Puts-cut, Puts-text}
 use Rattle.drc_rows.proofs.notes.push_items.Goals as goal
 

@@ -2,7 +2,7 @@ use Rattle.std.proofs.Common.{take, Ok}
 use Rattle.std.specs.List.{flat_map}
 use Rattle.drc_io.specs.declared.Failed.{Failed}
 use Rattle.drc_rows.specs.Buffer.{Puts}
-use Rattle.drc_rows.specs.Notes.{note_line}
+use Rattle.drc_rows.specs.NoteLines.{note_line}
 use Rattle.drc_rows.proofs.notes.push_items.Given as goal
 
 -- the lines of the notes that have been passed are in the buffer

@@ -1,6 +1,6 @@
 use Rattle.std.proofs.Common.{refl, ◌++◌, append_assoc, codes}
 use Rattle.std.proofs.lemmas.Result.{err_from_is_err_and}
-use Rattle.drc_rows.specs.Notes.{about_text}
+use Rattle.drc_rows.specs.NoteLines.{about_text}
 use Rattle.drc_rows.proofs.Lines.{Puts-then, Puts-cut}
 use Rattle.drc_rows.proofs.notes.push_note.Goals as goal
 

@@ -1,6 +1,6 @@
 use Rattle.std.proofs.Common.{◌≡◌, ◌∙◌, sym, [], ◌++◌, List, ℕ, append_assoc, append-nil, codes}
 use Rattle.std.proofs.lemmas.Result.{err_from_is_err_and}
-use Rattle.exact_dec.specs.Written.{mm_text}
+use Rattle.exact_dec.specs.MillimetreText.{mm_text}
 use Rattle.drc_rows.proofs.Scalars.{length_far, length_as, within_far, within_as, both_as}
 use Rattle.drc_rows.proofs.Lines.{Puts-then, Puts-cut, Puts-text}
 use Rattle.drc_rows.proofs.report.push_measure.Goals as goal

@@ -1,14 +1,14 @@
 use Rattle.std.proofs.Common.{ap, subst, map, ℕ, List, []}
 use Rattle.edit_script.specs.Commands.{plain_command}
 use Rattle.run_words.specs.Calls.{check}
-use Rattle.run_words.specs.Views.{reading_in}
+use Rattle.run_words.specs.CallValues.{reading_in}
 use Rattle.run_texts.specs.declared.texts.Which.TheVariants.{Script}
-use Rattle.run_texts.specs.Texts.{a_script}
-use Rattle.run_texts.specs.Views.{opened_in}
-use Rattle.run_texts.specs.Refusing.{StopsOption, StopsReadingOption, AreBytesOfOption, GivesReading}
+use Rattle.run_texts.specs.NamedTexts.{a_script}
+use Rattle.run_texts.specs.OpenedValues.{opened_in}
+use Rattle.run_texts.specs.RunFindings.{StopsOption, StopsReadingOption, AreBytesOfOption, GivesReading}
 use Rattle.run_texts.proofs.Accepting.{script_stops, option_stopped, option_gives}
 use Rattle.drc_run.specs.Output.{IsTold, IsToldSoFar}
-use Rattle.drc_run.specs.Endings.{Ends}
+use Rattle.drc_run.specs.RunEndings.{Ends}
 use Rattle.drc_run.proofs.Ending.{line_ends, told_ends}
 use Rattle.drc_run.proofs.check.check.Goals as goal
 

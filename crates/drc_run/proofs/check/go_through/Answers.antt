@@ -1,8 +1,8 @@
 use Rattle.std.proofs.Common.{Err, inl, ap, map, ◌∙◌}
 use Rattle.edit_script.specs.Commands.{plain_command}
-use Rattle.drc_run.specs.Turns.{IsTurn}
+use Rattle.drc_run.specs.CommandOutputs.{IsTurn}
 use Rattle.drc_run.specs.Output.{itself}
-use Rattle.drc_run.proofs.Turning.{opening_is, told_whole, told_front, first_front, no_fault, rose_since}
+use Rattle.drc_run.proofs.Turning.{opening_is, told_whole, told_prefix, first_prefix, no_fault, rose_since}
 use Rattle.drc_run.proofs.check.go_through.Goals as goal
 
 pub returns-in-Err-clause-ends : goal.returns-in-Err-clause-ends
@@ -10,7 +10,7 @@ returns-in-Err-clause-ends g c =
     let short = c.args.way.short in
     let session = c.args.session.now in
     let first = opening_is short session c.args.tiles.done c.args.tiles.held c.write_report.ensures.found c.requires.whole in
-    inl (first_front (IsTurn short) itself short session.state (map plain_command c.args.commands.now) (g.W.Sink.written c.args.out.now) (g.W.Sink.written c.write_report.new.out) (g.W.Sink.written c.write_report.new.out) _ first
+    inl (first_prefix (IsTurn short) itself short session.state (map plain_command c.args.commands.now) (g.W.Sink.written c.args.out.now) (g.W.Sink.written c.write_report.new.out) (g.W.Sink.written c.write_report.new.out) _ first
     c.in-Err.ensures.writes.bytes)
 
 pub returns-in-Ok-turns-clause-ends : goal.returns-in-Ok-turns-clause-ends
@@ -28,7 +28,7 @@ returns-in-Err-Unwritten-clause-ends g c =
     let short = c.args.way.short in
     let session = c.args.session.now in
     let first = opening_is short session c.args.tiles.done c.args.tiles.held c.write_report.ensures.found c.requires.whole in
-    inl (told_front (IsTurn short) itself short session.state (map plain_command c.args.commands.now) _ (g.W.Sink.written c.write_report.new.out) _ _ first c.in-Ok.ensures.writes.bytes c.in-Err-Unwritten.ensures.broken)
+    inl (told_prefix (IsTurn short) itself short session.state (map plain_command c.args.commands.now) _ (g.W.Sink.written c.write_report.new.out) _ _ first c.in-Ok.ensures.writes.bytes c.in-Err-Unwritten.ensures.broken)
 
 pub returns-in-Err-Unwritten-clause-fault : goal.returns-in-Err-Unwritten-clause-fault
 returns-in-Err-Unwritten-clause-fault g c e =
@@ -39,4 +39,4 @@ returns-in-Err-OutOfMemory-clause-ends g c =
     let short = c.args.way.short in
     let session = c.args.session.now in
     let first = opening_is short session c.args.tiles.done c.args.tiles.held c.write_report.ensures.found c.requires.whole in
-    told_front (IsTurn short) itself short session.state (map plain_command c.args.commands.now) _ (g.W.Sink.written c.write_report.new.out) _ _ first c.in-Ok.ensures.writes.bytes c.in-Err-OutOfMemory.ensures.broken
+    told_prefix (IsTurn short) itself short session.state (map plain_command c.args.commands.now) _ (g.W.Sink.written c.write_report.new.out) _ _ first c.in-Ok.ensures.writes.bytes c.in-Err-OutOfMemory.ensures.broken

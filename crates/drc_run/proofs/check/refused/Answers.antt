@@ -1,6 +1,6 @@
 use Rattle.std.proofs.Common.{refl}
 use Rattle.std.proofs.KnownBytes.{Keeps-refl}
-use Rattle.drc_run.specs.Running.{wanting, line}
+use Rattle.drc_run.specs.RunResults.{wanting, line}
 use Rattle.drc_run.proofs.check.refused.Goals as goal
 
 pub returns-in-OutOfMemory : goal.returns-in-OutOfMemory

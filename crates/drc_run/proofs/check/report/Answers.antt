@@ -2,7 +2,7 @@ use Rattle.std.proofs.Common.{map, subst}
 use Rattle.edit_script.specs.Commands.{plain_command}
 use Rattle.drc_state.specs.States.{State}
 use Rattle.drc_run.specs.Output.{IsTold, IsToldSoFar}
-use Rattle.drc_run.specs.Endings.{Ends}
+use Rattle.drc_run.specs.RunEndings.{Ends}
 use Rattle.drc_run.proofs.check.report.Goals as goal
 
 pub returns-in-Ok-clause-ends : goal.returns-in-Ok-clause-ends

@@ -1,8 +1,8 @@
 use Rattle.std.proofs.Common.{ap, ℕ}
 use Rattle.edit_script.specs.Commands.{plain_command}
 use Rattle.drc_run.specs.Reports.{report_text}
-use Rattle.drc_run.specs.Turns.{IsTurn, made}
-use Rattle.drc_run.specs.Running.{found_of}
+use Rattle.drc_run.specs.CommandOutputs.{IsTurn, made}
+use Rattle.drc_run.specs.RunResults.{found_of}
 use Rattle.drc_run.proofs.Turning.{taken_by, broken_by, refused_taken, refused_runs, refused_broken, refused_fault, refused_later}
 use Rattle.drc_run.proofs.check.turn.Goals as goal
 

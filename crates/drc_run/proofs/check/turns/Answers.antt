@@ -2,8 +2,8 @@ use Rattle.std.proofs.Common.{◌+◌, List, map, take, refl, sym, subst, arith}
 use Rattle.std.proofs.lemmas.Result.{err_from_is_err_and}
 use Rattle.edit_script.specs.Commands.{PlainCommand, plain_command}
 use Rattle.edit_script.specs.Fits.{Fits}
-use Rattle.drc_run.specs.Turns.{IsTurn}
-use Rattle.drc_run.specs.Running.{SoFar}
+use Rattle.drc_run.specs.CommandOutputs.{IsTurn}
+use Rattle.drc_run.specs.RunResults.{SoFar}
 use Rattle.drc_run.proofs.Turning.{each_has, more_at, one_longer, more_taken, stopped_at}
 use Rattle.drc_run.proofs.check.turns.Goals as goal
 

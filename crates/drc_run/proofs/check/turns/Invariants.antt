@@ -1,7 +1,7 @@
 use Rattle.std.proofs.Common.{◌≡◌, false, map, take}
 use Rattle.edit_script.specs.Commands.{plain_command}
-use Rattle.drc_run.specs.Turns.{IsTurn}
-use Rattle.drc_run.specs.Running.{SoFar}
+use Rattle.drc_run.specs.CommandOutputs.{IsTurn}
+use Rattle.drc_run.specs.RunResults.{SoFar}
 use Rattle.drc_run.proofs.check.turns.Given as goal
 
 -- the turns of the commands that have been passed are taken

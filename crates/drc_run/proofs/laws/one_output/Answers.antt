@@ -1,5 +1,5 @@
 use Rattle.std.proofs.Common.{false}
-use Rattle.drc_run.specs.Turns.{IsTurn, IsStepTurn}
+use Rattle.drc_run.specs.CommandOutputs.{IsTurn, IsStepTurn}
 use Rattle.drc_run.specs.Output.{itself, present_of}
 use Rattle.undo_log.specs.Past.{begun}
 use Rattle.drc_run.proofs.OneOutput as once
@@ -19,10 +19,10 @@ returns c =
     let step = turns.one_step_turn rows parts held c.one_step.ensures c.one_recheck.ensures in
     once.one_output c.one_reading.ensures c.one_reading-2.ensures c.one_reading-3.ensures.commands c.one_reading-3.ensures.steps
     (λ short s. told.one_told rows opening (IsTurn short) (turn short) itself short s)
-    (λ short s. told.front_of_told rows opening (IsTurn short) (turn short) itself short s)
+    (λ short s. told.prefix_of_told rows opening (IsTurn short) (turn short) itself short s)
     (λ s. told.one_told rows opening IsStepTurn step present_of false (begun s))
-    (λ s. told.front_of_told rows opening IsStepTurn step present_of false (begun s))
+    (λ s. told.prefix_of_told rows opening IsStepTurn step present_of false (begun s))
     (λ s. trials.one_tried c.one_answer.ensures rows c.one_trial.ensures.rows s (c.one_survey.ensures s))
-    (λ s. trials.front_of_tried c.one_answer.ensures rows c.one_trial.ensures.rows s)
+    (λ s. trials.prefix_of_tried c.one_answer.ensures rows c.one_trial.ensures.rows s)
     (told.one_stolen rows)
     (written.one_written c.one_outcome.ensures)

@@ -1,21 +1,21 @@
 use Rattle.std.proofs.Common.{◌≡◌, ◌++◌, decimal, rules}
 use Rattle.drc_io.proofs.Writing.{Writes-text}
-use Rattle.run_texts.specs.Refusing.{digits_text}
+use Rattle.run_texts.specs.RunFindings.{digits_text}
 use Rattle.drc_run.specs.Lines.{reason_told, reason_line}
 use Rattle.drc_run.proofs.Reasons.{row, line_of}
 use Rattle.drc_run.proofs.lines.write_reason.Goals as goal
 
 pub returns : goal.returns
 returns g c =
-    let front = c.args.front.now in
+    let prefix = c.args.prefix.now in
     let word = c.args.word.now in
     let digits = digits_text c.args.number in
     let behind = c.args.behind.now in
     let told = c.args.told in
     let number : c.as_bytes-2.result.now ≡ decimal told.causes.first.number = search rules in
-    let text : row front word c.digits_of.result.now behind c.as_bytes.result.now c.point.result.now c.name.result.now c.point-2.result.now c.name-2.result.now c.point-3.result.now c.name-3.result.now
+    let text : row prefix word c.digits_of.result.now behind c.as_bytes.result.now c.point.result.now c.name.result.now c.point-2.result.now c.name-2.result.now c.point-3.result.now c.name-3.result.now
     c.as_bytes-2.result.now c.point-4.result.now c.number_digits.result.now c.point-5.result.now c.number_digits-2.result.now c.point-6.result.now c.number_digits-3.result.now
-    c.at.result.now c.place_digits.result.now c.plus.result.now c.place_digits-2.result.now ≡ reason_line front (word ++ digits) behind (reason_told told) =
+    c.at.result.now c.place_digits.result.now c.plus.result.now c.place_digits-2.result.now ≡ reason_line prefix (word ++ digits) behind (reason_told told) =
     rw (
       c.digits_of.ensures,
       c.as_bytes.ensures.value,
@@ -38,5 +38,5 @@ returns g c =
       c.place_digits-2.ensures,
       c.inner_behind-inner.ensures,
     )
-    (line_of front word digits behind told) in
+    (line_of prefix word digits behind told) in
     Writes-text _ _ _ _ _ _ _ text c.write_pieces.ensures

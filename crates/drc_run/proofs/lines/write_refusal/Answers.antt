@@ -1,5 +1,5 @@
 use Rattle.drc_io.proofs.Writing.{Writes-text}
-use Rattle.run_texts.specs.Refusing.{reason_in}
+use Rattle.run_texts.specs.RunFindings.{reason_in}
 use Rattle.drc_run.specs.Lines.{reason_told}
 use Rattle.drc_run.proofs.Reasons.{refusal_line}
 use Rattle.drc_run.proofs.lines.write_refusal.Goals as goal

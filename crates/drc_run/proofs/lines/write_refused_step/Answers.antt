@@ -1,7 +1,7 @@
 use Rattle.std.proofs.Common.{ap}
 use Rattle.plain_types.specs.Reasons.{PlainReason}
 use Rattle.drc_io.proofs.Writing.{Writes-text}
-use Rattle.run_texts.specs.Texts.{reason_text}
+use Rattle.run_texts.specs.NamedTexts.{reason_text}
 use Rattle.drc_run.specs.Reports.{refused_line}
 use Rattle.drc_run.proofs.lines.write_refused_step.Goals as goal
 

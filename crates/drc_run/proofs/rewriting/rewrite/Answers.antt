@@ -4,11 +4,11 @@ use Rattle.edit_script.specs.Commands.{PlainCommand, plain_command}
 use Rattle.board_write.specs.Sources.{IsSource}
 use Rattle.run_words.specs.Calls.{write}
 use Rattle.run_texts.specs.declared.texts.Which.TheVariants.{Text, Script}
-use Rattle.run_texts.specs.Texts.{named, a_text, a_script, accepted, ReaderSays}
-use Rattle.run_texts.specs.Refusing.{StopsReading, StopsText}
+use Rattle.run_texts.specs.NamedTexts.{named, a_text, a_script, accepted, ReaderSays}
+use Rattle.run_texts.specs.RunFindings.{StopsReading, StopsText}
 use Rattle.run_texts.proofs.Accepting.{text_says, reading_stops}
 use Rattle.drc_run.specs.Output.{IsBoardWritten}
-use Rattle.drc_run.specs.Endings.{Ends, IsTextOfOne}
+use Rattle.drc_run.specs.RunEndings.{Ends, IsTextOfOne}
 use Rattle.drc_run.proofs.Ending.{line_ends}
 use Rattle.drc_run.proofs.Rewrites.{text_stops, script_stops, rewritten_ends}
 use Rattle.drc_run.proofs.rewriting.rewrite.Goals as goal

@@ -1,7 +1,7 @@
 use Rattle.std.proofs.Common.{map, subst}
 use Rattle.edit_script.specs.Commands.{plain_command}
-use Rattle.board_write.specs.Answers.{IsCause}
-use Rattle.drc_run.proofs.Rewrites.{wrote_ends, front_ends}
+use Rattle.board_write.specs.WriteResults.{IsCause}
+use Rattle.drc_run.proofs.Rewrites.{wrote_ends, prefix_ends}
 use Rattle.drc_run.proofs.rewriting.rewritten.Goals as goal
 
 pub returns-in-Ok-clause-ends : goal.returns-in-Ok-clause-ends
@@ -16,4 +16,4 @@ returns-in-Err-Failed-clause-ends g c =
     let cause = subst (IsCause text commands (g.W.Sink.written c.args.out.now) (g.W.Sink.written c.write_source.new.out) (g.W.Sink.faults c.args.out.now) (g.W.Sink.faults c.write_source.new.out)) c.in-Err-Failed.field-0-is
     c.in-Err-Failed.ensures.written in
     let law = c.read_back.ensures in
-    front_ends law.again law.unchanged text commands c.requires.shallow _ _ cause.0
+    prefix_ends law.again law.unchanged text commands c.requires.shallow _ _ cause.0

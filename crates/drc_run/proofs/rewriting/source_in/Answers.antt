@@ -1,7 +1,7 @@
 use Rattle.std.proofs.Common.{refl, inr, subst}
 use Rattle.board_errors.specs.declared.errors.BoardError.TheVariants.{OutOfMemory}
-use Rattle.board_errors.specs.Reasons.{board_reason}
-use Rattle.board_write.specs.Answers.{IsCauseBefore}
+use Rattle.board_errors.specs.BoardReasons.{board_reason}
+use Rattle.board_write.specs.WriteResults.{IsCauseBefore}
 use Rattle.pcb_read.specs.BoardText.{BoardSays}
 use Rattle.run_texts.specs.declared.texts.Which.TheVariants.{Text}
 use Rattle.run_texts.proofs.Refusals.{refuses_so, stops_so}

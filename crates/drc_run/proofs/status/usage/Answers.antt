@@ -1,6 +1,6 @@
 use Rattle.std.proofs.Common.{refl}
 use Rattle.run_words.specs.Calls.{nothing}
-use Rattle.run_texts.specs.Texts.{ReadFails}
+use Rattle.run_texts.specs.NamedTexts.{ReadFails}
 use Rattle.drc_run.specs.declared.status.Status.TheVariants.{Usage}
 use Rattle.drc_run.specs.Output.{usage, unclear, whole, IsOutputFor, IsBegunFor}
 use Rattle.drc_run.proofs.Written.{written}

@@ -1,10 +1,10 @@
 use Rattle.std.proofs.Common.{refl, subst, sym}
 use Rattle.run_texts.specs.declared.texts.Stop.{Stop}
-use Rattle.run_texts.specs.Refusing.{why_of}
+use Rattle.run_texts.specs.RunFindings.{why_of}
 use Rattle.drc_run.specs.declared.status.Status.TheVariants.{Refused}
 use Rattle.drc_run.specs.Output.{refusal}
-use Rattle.drc_run.specs.Refusing.{IsLineOf}
-use Rattle.drc_run.specs.Endings.{IsTextOfOne}
+use Rattle.drc_run.specs.RefusalLines.{IsLineOf}
+use Rattle.drc_run.specs.RunEndings.{IsTextOfOne}
 use Rattle.drc_run.proofs.Written.{written, its_text}
 use Rattle.drc_run.proofs.status.write_stop.Goals as goal
 

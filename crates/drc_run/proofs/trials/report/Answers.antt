@@ -2,8 +2,8 @@ use Rattle.std.proofs.Common.{map, subst}
 use Rattle.edit_script.specs.Commands.{plain_command}
 use Rattle.drc_state.specs.States.{State}
 use Rattle.drc_run.specs.Output.{AreTrialsTold}
-use Rattle.drc_run.specs.Running.{AreTrialsToldSoFar}
-use Rattle.drc_run.specs.Endings.{Ends}
+use Rattle.drc_run.specs.RunResults.{AreTrialsToldSoFar}
+use Rattle.drc_run.specs.RunEndings.{Ends}
 use Rattle.drc_run.proofs.trials.report.Goals as goal
 
 pub returns-in-Ok-clause-ends : goal.returns-in-Ok-clause-ends

@@ -2,13 +2,13 @@ use Rattle.std.proofs.Common.{ap, subst, map, ℕ, List, refl}
 use Rattle.edit_script.specs.Commands.{PlainCommand, plain_command}
 use Rattle.run_words.specs.Calls.{try}
 use Rattle.run_texts.specs.declared.texts.Which.TheVariants.{Trials}
-use Rattle.run_texts.specs.Texts.{named, a_board, a_script, accepted, ReaderSays}
-use Rattle.run_texts.specs.Views.{opened_in}
-use Rattle.run_texts.specs.Refusing.{StopsReading}
+use Rattle.run_texts.specs.NamedTexts.{named, a_board, a_script, accepted, ReaderSays}
+use Rattle.run_texts.specs.OpenedValues.{opened_in}
+use Rattle.run_texts.specs.RunFindings.{StopsReading}
 use Rattle.run_texts.proofs.Accepting.{text_says, reading_stops, second_stops}
 use Rattle.drc_run.specs.Output.{AreTrialsTold}
-use Rattle.drc_run.specs.Running.{AreTrialsToldSoFar}
-use Rattle.drc_run.specs.Endings.{Ends}
+use Rattle.drc_run.specs.RunResults.{AreTrialsToldSoFar}
+use Rattle.drc_run.specs.RunEndings.{Ends}
 use Rattle.drc_run.proofs.Ending.{line_ends}
 use Rattle.drc_run.proofs.Scripted.{trials_end}
 use Rattle.drc_run.proofs.trials.try_each.Goals as goal

@@ -6,8 +6,8 @@ use Rattle.edit_script.specs.Commands.{PlainCommand, plain_command}
 use Rattle.edit_script.specs.Fits.{Fits}
 use Rattle.drc_state.specs.States.{State}
 use Rattle.what_if.specs.Trials.{IsCount}
-use Rattle.drc_run.specs.Turns.{IsTrial}
-use Rattle.drc_run.specs.Running.{IsTurnTaken, IsBroken, SoFar}
+use Rattle.drc_run.specs.CommandOutputs.{IsTrial}
+use Rattle.drc_run.specs.RunResults.{IsTurnTaken, IsBroken, SoFar}
 use Rattle.drc_run.proofs.Turning.{each_has, more_at, one_longer, more_taken, stopped_at}
 use Rattle.drc_run.proofs.TrialTexts.{zip_more}
 use Rattle.drc_run.proofs.trials.turns.Goals as goal
@@ -42,7 +42,7 @@ loop-command-preserved g c =
     let is = subst (λ (x : State). IsCount x command count) inv.same c.in_ok-count.ensures.count in
     let more = length-append c.loop-command.counts.items (count ∷ []) in
     record {
-      ground = c.in_ok-count.ensures.ground;
+      trial_context = c.in_ok-count.ensures.trial_context;
       same = c.in_ok-count.ensures.same ∙ inv.same;
       room = omega (arith, c.push_reserved.ensures.capacity, inv.room);
       long = omega (arith, c.push_reserved.ensures.len, more, inv.long);

@@ -2,15 +2,15 @@ use Rattle.std.proofs.Common.{◌≡◌, ◌≤◌, false, length, map, take, ve
 use Rattle.std.specs.List.{AllZip}
 use Rattle.edit_script.specs.Commands.{plain_command}
 use Rattle.what_if.specs.Trials.{IsCount}
-use Rattle.drc_run.specs.Turns.{IsTrial}
-use Rattle.drc_run.specs.Outlooks.{IsGround}
-use Rattle.drc_run.specs.Running.{SoFar}
+use Rattle.drc_run.specs.CommandOutputs.{IsTrial}
+use Rattle.drc_run.specs.TrialResults.{IsTrialContext}
+use Rattle.drc_run.specs.RunResults.{SoFar}
 use Rattle.drc_run.proofs.trials.turns.Given as goal
 
 -- the commands that have been passed are tried and counted, and the session is where it was
 abbrev pub invariant-loop-command : goal.invariant-loop-command
 invariant-loop-command g l = record {
-  ground : IsGround l.session l.fn.ground;
+  trial_context : IsTrialContext l.session l.fn.trial_context;
   same : l.session.state ≡ l.initial.session.state;
   room : length l.commands ≤ vec_capacity l.counts;
   long : length l.counts.items ≡ l.command-index;

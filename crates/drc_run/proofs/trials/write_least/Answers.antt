@@ -1,6 +1,6 @@
 use Rattle.std.proofs.Common.{◌≡◌, ℕ, List, Option, Some, slice_get, refl, sym, subst}
 use Rattle.what_if.specs.Trials.{IsLeast}
-use Rattle.drc_run.specs.Running.{IsLeastWritten}
+use Rattle.drc_run.specs.RunResults.{IsLeastWritten}
 use Rattle.drc_run.proofs.trials.write_least.Goals as goal
 
 pub count_at-requires : goal.count_at-requires

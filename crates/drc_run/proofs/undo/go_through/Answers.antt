@@ -4,11 +4,11 @@ use Rattle.drc_session.specs.Sessions.{PlainSession}
 use Rattle.drc_state.specs.States.{State}
 use Rattle.undo_log.specs.Past.{begun}
 use Rattle.drc_run.specs.Reports.{IsOpening, report_text}
-use Rattle.drc_run.specs.Turns.{IsStepTurn}
+use Rattle.drc_run.specs.CommandOutputs.{IsStepTurn}
 use Rattle.drc_run.specs.Output.{IsStatusOf, present_of}
-use Rattle.drc_run.specs.Endings.{number_of}
-use Rattle.drc_run.specs.Running.{found_of}
-use Rattle.drc_run.proofs.Turning.{opening_is, told_whole, told_front, first_front, no_fault, rose_since}
+use Rattle.drc_run.specs.RunEndings.{number_of}
+use Rattle.drc_run.specs.RunResults.{found_of}
+use Rattle.drc_run.proofs.Turning.{opening_is, told_whole, told_prefix, first_prefix, no_fault, rose_since}
 use Rattle.drc_run.proofs.undo.go_through.Goals as goal
 
 pub returns-in-Err-clause-ends : goal.returns-in-Err-clause-ends
@@ -18,7 +18,7 @@ returns-in-Err-clause-ends g c =
     let same : session.state ≡ opening = ap (λ (s : PlainSession). s.state) c.session.ensures.same in
     let text = report_text false 0 session.state (found_of session c.args.tiles.held) c.args.tiles.done in
     let first = subst (λ (s : State). IsOpening false s text) same (opening_is false session c.args.tiles.done c.args.tiles.held c.write_report.ensures.found c.requires.whole) in
-    inl (first_front IsStepTurn present_of false (begun opening) (map plain_step c.args.all.now) (g.W.Sink.written c.args.out.now) (g.W.Sink.written c.write_report.new.out) (g.W.Sink.written c.write_report.new.out) text first
+    inl (first_prefix IsStepTurn present_of false (begun opening) (map plain_step c.args.all.now) (g.W.Sink.written c.args.out.now) (g.W.Sink.written c.write_report.new.out) (g.W.Sink.written c.write_report.new.out) text first
     c.in-Err.ensures.writes.bytes)
 
 pub returns-in-Ok-steps-clause-ends : goal.returns-in-Ok-steps-clause-ends
@@ -43,7 +43,7 @@ returns-in-Err-Unwritten-clause-ends g c =
     let same : session.state ≡ opening = ap (λ (s : PlainSession). s.state) c.session.ensures.same in
     let text = report_text false 0 session.state (found_of session c.args.tiles.held) c.args.tiles.done in
     let first = subst (λ (s : State). IsOpening false s text) same (opening_is false session c.args.tiles.done c.args.tiles.held c.write_report.ensures.found c.requires.whole) in
-    inl (told_front IsStepTurn present_of false (begun opening) (map plain_step c.args.all.now) _ (g.W.Sink.written c.write_report.new.out) _ text first c.in-Ok.ensures.writes.bytes
+    inl (told_prefix IsStepTurn present_of false (begun opening) (map plain_step c.args.all.now) _ (g.W.Sink.written c.write_report.new.out) _ text first c.in-Ok.ensures.writes.bytes
     (c.in-Err-Unwritten.ensures.broken (begun opening) c.requires.begun))
 
 pub returns-in-Err-Unwritten-clause-fault : goal.returns-in-Err-Unwritten-clause-fault
@@ -57,5 +57,5 @@ returns-in-Err-OutOfMemory-clause-ends g c =
     let same : session.state ≡ opening = ap (λ (s : PlainSession). s.state) c.session.ensures.same in
     let text = report_text false 0 session.state (found_of session c.args.tiles.held) c.args.tiles.done in
     let first = subst (λ (s : State). IsOpening false s text) same (opening_is false session c.args.tiles.done c.args.tiles.held c.write_report.ensures.found c.requires.whole) in
-    told_front IsStepTurn present_of false (begun opening) (map plain_step c.args.all.now) _ (g.W.Sink.written c.write_report.new.out) _ text first c.in-Ok.ensures.writes.bytes
+    told_prefix IsStepTurn present_of false (begun opening) (map plain_step c.args.all.now) _ (g.W.Sink.written c.write_report.new.out) _ text first c.in-Ok.ensures.writes.bytes
     (c.in-Err-OutOfMemory.ensures.broken (begun opening) c.requires.begun)

@@ -6,7 +6,7 @@ use Rattle.drc_state.specs.Recheck.{IsHeldCount}
 use Rattle.undo_log.specs.Past.{Past}
 use Rattle.undo_log.specs.Ways.{IsPastOf}
 use Rattle.drc_run.specs.Reports.{report_text}
-use Rattle.drc_run.specs.Running.{found_of}
+use Rattle.drc_run.specs.RunResults.{found_of}
 use Rattle.drc_run.proofs.Stepping.{Takes, step_turn, taken_by, broken_by, refused_taken, refused_runs, refused_broken}
 use Rattle.drc_run.proofs.Turning.{refused_fault, refused_later}
 use Rattle.drc_run.proofs.undo.step.Goals as goal

@@ -2,7 +2,7 @@ use Rattle.std.proofs.Common.{◌+◌, List, map, take, sym, subst, arith}
 use Rattle.std.proofs.lemmas.Result.{err_from_is_err_and}
 use Rattle.edit_script.specs.Commands.{PlainStep, plain_step}
 use Rattle.edit_script.specs.Fits.{StepFits}
-use Rattle.drc_run.specs.Running.{AreStepsSoFar}
+use Rattle.drc_run.specs.RunResults.{AreStepsSoFar}
 use Rattle.drc_run.proofs.Turning.{each_has, more_at}
 use Rattle.drc_run.proofs.Stepping.{more_steps, stopped_steps}
 use Rattle.drc_run.proofs.undo.steps.Goals as goal

@@ -1,6 +1,6 @@
 use Rattle.std.proofs.Common.{map, take}
 use Rattle.edit_script.specs.Commands.{plain_step}
-use Rattle.drc_run.specs.Running.{AreStepsSoFar}
+use Rattle.drc_run.specs.RunResults.{AreStepsSoFar}
 use Rattle.drc_run.proofs.undo.steps.Given as goal
 
 -- the turns of the steps that have been passed are taken

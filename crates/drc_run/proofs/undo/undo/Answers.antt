@@ -2,12 +2,12 @@ use Rattle.std.proofs.Common.{ap, subst, map, ℕ, List, refl}
 use Rattle.edit_script.specs.Commands.{PlainStep, plain_step}
 use Rattle.run_words.specs.Calls.{undo}
 use Rattle.run_texts.specs.declared.texts.Which.TheVariants.{Steps}
-use Rattle.run_texts.specs.Texts.{named, a_board, some_steps, accepted, ReaderSays}
-use Rattle.run_texts.specs.Views.{opened_in}
-use Rattle.run_texts.specs.Refusing.{StopsReading}
+use Rattle.run_texts.specs.NamedTexts.{named, a_board, some_steps, accepted, ReaderSays}
+use Rattle.run_texts.specs.OpenedValues.{opened_in}
+use Rattle.run_texts.specs.RunFindings.{StopsReading}
 use Rattle.run_texts.proofs.Accepting.{text_says, reading_stops, second_stops}
 use Rattle.drc_run.specs.Output.{AreStepsTold, AreStepsToldSoFar}
-use Rattle.drc_run.specs.Endings.{Ends}
+use Rattle.drc_run.specs.RunEndings.{Ends}
 use Rattle.drc_run.proofs.Ending.{line_ends}
 use Rattle.drc_run.proofs.Scripted.{steps_end}
 use Rattle.drc_run.proofs.undo.undo.Goals as goal

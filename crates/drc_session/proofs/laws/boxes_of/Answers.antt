@@ -1,4 +1,4 @@
-use Rattle.drc_session.proofs.Stirring as here
+use Rattle.drc_session.proofs.EditEffect as here
 use Rattle.drc_session.proofs.laws.boxes_of.Goals as goal
 
 pub returns : goal.returns

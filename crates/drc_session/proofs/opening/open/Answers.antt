@@ -1,6 +1,6 @@
 use Rattle.std.proofs.Common.{◌∙◌, ℤ, sym, subst}
 use Rattle.plain_types.specs.Lengths.{IsLength}
-use Rattle.rule_text.specs.Views.{plain_rules}
+use Rattle.rule_text.specs.RuleValues.{plain_rules}
 use Rattle.drc_session.proofs.Clearances.{as_passed}
 use Rattle.drc_session.proofs.Opened.{opened_index, opened_rows}
 use Rattle.drc_session.proofs.Settled.{opened}

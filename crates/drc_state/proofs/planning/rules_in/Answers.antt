@@ -1,5 +1,5 @@
 use Rattle.std.proofs.Common.{arith}
-use Rattle.rule_text.specs.Views.{plain_rules}
+use Rattle.rule_text.specs.RuleValues.{plain_rules}
 use Rattle.rule_text.proofs.FewRules.{few_in_list}
 use Rattle.drc_state.proofs.planning.rules_in.Goals as goal
 

@@ -1,6 +1,6 @@
 use Rattle.std.proofs.Common.{◌≡◌, ◌≤◌, ◌+◌, length, map, sum_by, All}
-use Rattle.sexpr_read.specs.Views.{trees_left}
-use Rattle.list_read.specs.Answers.{each_of}
+use Rattle.sexpr_read.specs.TreeViews.{trees_left}
+use Rattle.list_read.specs.FirstRefusals.{each_of}
 use Rattle.edit_script.specs.CommandsOf.{command_of}
 use Rattle.edit_script.specs.Fits.{IsRead, FormsStandIn, FormsShallow, size_of, added_by}
 use Rattle.edit_script.specs.Commands.{plain_command}

@@ -1,6 +1,6 @@
 use Rattle.std.proofs.Common.{◌≡◌, ◌≤◌, ◌+◌, length, map, sum_by, All}
-use Rattle.sexpr_read.specs.Views.{trees_left}
-use Rattle.list_read.specs.Answers.{each_of}
+use Rattle.sexpr_read.specs.TreeViews.{trees_left}
+use Rattle.list_read.specs.FirstRefusals.{each_of}
 use Rattle.edit_script.specs.CommandsOf.{step_of}
 use Rattle.edit_script.specs.Fits.{IsReadStep, FormsStandIn, FormsShallow, size_of, added_by_step}
 use Rattle.edit_script.specs.Commands.{plain_step}

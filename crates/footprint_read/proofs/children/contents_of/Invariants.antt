@@ -1,5 +1,5 @@
 use Rattle.std.proofs.Common.{◌≡◌, All}
-use Rattle.sexpr_read.specs.Views.{tree_of, trees_left}
+use Rattle.sexpr_read.specs.TreeViews.{tree_of, trees_left}
 use Rattle.part_read.specs.Ready.{IsReady}
 use Rattle.footprint_read.specs.FootprintOf.{items_of, children_give, contents_of}
 use Rattle.footprint_read.specs.Appending.{onto}

@@ -1,6 +1,6 @@
 use Rattle.std.proofs.Common.{◌≡◌, ℤ, ◌∙◌, Some, cond}
 use Rattle.std.specs.BTreeMap as tree
-use Rattle.courtyard.specs.Groups.{place_cmp}
+use Rattle.courtyard.specs.EndGroups.{place_cmp}
 use Rattle.footprint_read.proofs.Counting.{entered}
 use Rattle.footprint_read.proofs.closing.enter.Goals as goal
 

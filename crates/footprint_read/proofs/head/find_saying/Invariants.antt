@@ -1,7 +1,7 @@
 use Rattle.std.proofs.Common.{◌≡◌}
 use Rattle.std.specs.Prelude.{find}
 use Rattle.sexpr_read.specs.Tree.{parts}
-use Rattle.sexpr_read.specs.Views.{tree_of, trees_left}
+use Rattle.sexpr_read.specs.TreeViews.{tree_of, trees_left}
 use Rattle.footprint_read.specs.FootHead.{says}
 use Rattle.footprint_read.proofs.head.find_saying.Given as goal
 

@@ -1,9 +1,9 @@
 use Rattle.std.proofs.Common.{ℤ, IfSome, IfNone, subst}
-use Rattle.geo_seg.specs.Points.{spot_of}
+use Rattle.geo_seg.specs.Points.{rational_point_of}
 use Rattle.geo_seg.specs.Inside.{outline, EachEdge, SomeEdge}
-use Rattle.geo_poly.specs.Outlines.{IsReached}
-use Rattle.geo_poly.specs.Runs.{LiesClear}
-use Rattle.geo_poly.specs.Steps.{IsPast}
+use Rattle.geo_poly.specs.OutlineEdges.{IsReached}
+use Rattle.geo_poly.specs.EdgeRuns.{LiesClear}
+use Rattle.geo_poly.specs.OutlineSteps.{IsPast}
 use Rattle.geo_poly.proofs.RunLemmas.{d_more, none_reached}
 use Rattle.geo_poly.proofs.StepLemmas.{NoneReached, kept, past_by}
 use Rattle.geo_poly.proofs.besides.beyond_step.Goals as goal
@@ -15,7 +15,7 @@ returns-in-Some-clause-past c =
 
 pub returns-in_default-clause-past : goal.returns-in_default-clause-past
 returns-in_default-clause-past c =
-    kept (λ (z : ℤ). IfSome c.far_step.result (IsPast (NoneReached c.args.s z) c.args.poly.now (spot_of c.args.s.a) c.args.low)) c.args.d c.requires.range c.far_step.ensures.past
+    kept (λ (z : ℤ). IfSome c.far_step.result (IsPast (NoneReached c.args.s z) c.args.poly.now (rational_point_of c.args.s.a) c.args.low)) c.args.d c.requires.range c.far_step.ensures.past
 
 pub returns-in_default-clause-stuck : goal.returns-in_default-clause-stuck
 returns-in_default-clause-stuck c =

@@ -1,11 +1,11 @@
 use Rattle.std.proofs.Common.{ℤ, ◌≤◌, ◌↔◌, IsTrue, List, length, take, drop, subst, sym}
 use Rattle.geo_seg.specs.declared.points.Point.{Point}
 use Rattle.geo_seg.specs.declared.points.Seg.{Seg}
-use Rattle.geo_seg.specs.Points.{spot_of}
+use Rattle.geo_seg.specs.Points.{rational_point_of}
 use Rattle.geo_seg.specs.Inside.{outline, EachEdge}
-use Rattle.geo_seg.specs.Runs.{IsRunBox}
+use Rattle.geo_seg.specs.RunBoxes.{IsRunBox}
 use Rattle.geo_seg.proofs.Passed.{passed}
-use Rattle.geo_poly.specs.Runs.{between, LiesClear, PassOdd}
+use Rattle.geo_poly.specs.EdgeRuns.{between, LiesClear, PassOdd}
 use Rattle.geo_poly.proofs.RunLemmas.{d_reach, outline_length}
 use Rattle.geo_poly.proofs.besides.clear_step.Goals as goal
 
@@ -22,7 +22,7 @@ returns c =
       counted = record {
         after = c.end-high.ensures.after;
         within = subst (λ (z : List Point). high ≤ length z) c.corners-corners.ensures.same c.end-high.ensures.within;
-        odd = subst (λ (z : List Point). IsTrue c.in_ok-odd.odd ↔ PassOdd (spot_of c.args.s.a) (between low high (outline z))) c.corners-corners.ensures.same c.in_ok-odd.ensures.odd;
+        odd = subst (λ (z : List Point). IsTrue c.in_ok-odd.odd ↔ PassOdd (rational_point_of c.args.s.a) (between low high (outline z))) c.corners-corners.ensures.same c.in_ok-odd.ensures.odd;
       };
       past = subst (λ (z : ℤ). EachEdge (LiesClear near z) (between low high (outline ks))) (d_reach d c.requires.range.from c.requires.range.to)
           (subst (λ (z : List Point). EachEdge (LiesClear near (passed d)) (between low high (outline z))) c.corners-corners.ensures.same c.in_ok-odd.ensures.clear);

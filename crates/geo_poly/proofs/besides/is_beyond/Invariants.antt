@@ -1,11 +1,11 @@
 use Rattle.std.proofs.Common.{◌-◌}
-use Rattle.geo_seg.specs.Points.{spot_of}
+use Rattle.geo_seg.specs.Points.{rational_point_of}
 use Rattle.geo_poly.proofs.StepLemmas.{AllApart, IsBehind}
 use Rattle.geo_poly.proofs.besides.is_beyond.Given as goal
 
 -- the edges behind are apart, with their parity
 abbrev pub invariant-steps : goal.invariant-steps
-invariant-steps l = IsBehind (AllApart l.s l.d) l.poly (spot_of l.s.a) l.all l.low l.odd
+invariant-steps l = IsBehind (AllApart l.s l.d) l.poly (rational_point_of l.s.a) l.all l.low l.odd
 
 abbrev pub decreases-steps : goal.decreases-steps
 decreases-steps l = l.all - l.low

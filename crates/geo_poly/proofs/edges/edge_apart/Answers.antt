@@ -4,7 +4,7 @@ use Rattle.geo_seg.specs.Boxes.{AreClear}
 use Rattle.geo_seg.proofs.BoxLemmas.{clear_apart}
 use Rattle.geo_seg.proofs.Passed.{at_d}
 use Rattle.geo_seg.proofs.Choices.{surely}
-use Rattle.geo_poly.specs.Outlines.{IsApart}
+use Rattle.geo_poly.specs.OutlineEdges.{IsApart}
 use Rattle.geo_poly.proofs.edges.edge_apart.Goals as goal
 
 pub returns-then-is_clear : goal.returns-then-is_clear

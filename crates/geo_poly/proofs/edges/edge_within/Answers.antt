@@ -4,7 +4,7 @@ use Rattle.geo_seg.specs.Boxes.{AreClear}
 use Rattle.geo_seg.proofs.BoxLemmas.{clear_not_within}
 use Rattle.geo_seg.proofs.Passed.{at_d, at_more}
 use Rattle.geo_seg.proofs.Choices.{surely_not}
-use Rattle.geo_poly.specs.Outlines.{IsReached}
+use Rattle.geo_poly.specs.OutlineEdges.{IsReached}
 use Rattle.geo_poly.proofs.edges.edge_within.Goals as goal
 
 pub returns-then-not-is_clear : goal.returns-then-not-is_clear

@@ -2,7 +2,7 @@ use Rattle.std.proofs.Common.{ℤ, drop}
 use Rattle.geo_seg.specs.Nearer.{IsDistance}
 use Rattle.geo_seg.specs.Distances.{IsGap}
 use Rattle.geo_seg.specs.Inside.{path, EachEdge}
-use Rattle.geo_poly.specs.Outlines.{IsApart}
+use Rattle.geo_poly.specs.OutlineEdges.{IsApart}
 use Rattle.geo_poly.proofs.edges.path_gap.Given as goal
 
 -- what is the greatest for the edges that are left, up to the best so far, is so for all

@@ -1,6 +1,6 @@
 use Rattle.std.proofs.Common.{◌↔◌, drop}
 use Rattle.geo_seg.specs.Inside.{path, SomeEdge}
-use Rattle.geo_poly.specs.Outlines.{IsReached}
+use Rattle.geo_poly.specs.OutlineEdges.{IsReached}
 use Rattle.geo_poly.proofs.edges.path_within.Given as goal
 
 -- the edges that are left decide

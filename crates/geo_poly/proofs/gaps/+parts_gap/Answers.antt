@@ -7,9 +7,9 @@ use Rattle.geo_seg.specs.Distances.{IsGap}
 use Rattle.geo_seg.specs.Inside.{outline, EachEdge}
 use Rattle.geo_seg.proofs.Passed.{d_kept, d_zero, at_d}
 use Rattle.geo_seg.proofs.GapLemmas.{gap_same, gap_whole, gap_none}
-use Rattle.geo_poly.specs.Outlines.{IsApart, EachApart}
-use Rattle.geo_poly.specs.Runs.{between}
-use Rattle.geo_poly.specs.Parts.{edges_of}
+use Rattle.geo_poly.specs.OutlineEdges.{IsApart, EachApart}
+use Rattle.geo_poly.specs.EdgeRuns.{between}
+use Rattle.geo_poly.specs.OutlineParts.{edges_of}
 use Rattle.geo_poly.proofs.RunLemmas.{both_apart, edges_are, each_of_none, apart_of_none}
 use Rattle.geo_poly.proofs.Falls.{edges_fall, run_step, other_step}
 use Rattle.geo_poly.proofs.gaps.+parts_gap.Goals.{then-most-eq0-via-then-most-eq0, then-most-eq0-via-else-most-eq0+then-is_clear}

@@ -2,9 +2,9 @@ use Rattle.std.proofs.Common.{◌-◌, ◌+◌, ◌≤◌}
 use Rattle.geo_seg.specs.Nearer.{IsDistance}
 use Rattle.geo_seg.specs.Distances.{IsGap}
 use Rattle.geo_seg.specs.Inside.{outline}
-use Rattle.geo_poly.specs.Outlines.{EachApart}
-use Rattle.geo_poly.specs.Runs.{between}
-use Rattle.geo_poly.specs.Parts.{edges_of}
+use Rattle.geo_poly.specs.OutlineEdges.{EachApart}
+use Rattle.geo_poly.specs.EdgeRuns.{between}
+use Rattle.geo_poly.specs.OutlineParts.{edges_of}
 use Rattle.geo_poly.proofs.gaps.+parts_gap.Given as goal
 
 abbrev pub decreases-parts_gap : goal.decreases-parts_gap

@@ -4,7 +4,7 @@ use Rattle.geo_seg.specs.Boxes.{AreClear}
 use Rattle.geo_seg.specs.Inside.{path, EachEdge}
 use Rattle.geo_seg.proofs.Passed.{at_d, d_kept}
 use Rattle.geo_seg.proofs.GapLemmas.{gap_same, gap_whole}
-use Rattle.geo_poly.specs.Outlines.{IsApart}
+use Rattle.geo_poly.specs.OutlineEdges.{IsApart}
 use Rattle.geo_poly.proofs.Covers.{each_clear}
 use Rattle.geo_poly.proofs.RunLemmas.{run_covers}
 use Rattle.geo_poly.proofs.gaps.far_gap.Goals as goal

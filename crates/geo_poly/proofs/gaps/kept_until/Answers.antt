@@ -5,7 +5,7 @@ use Rattle.geo_seg.specs.Distances.{IsGap}
 use Rattle.geo_seg.specs.Inside.{EachEdge}
 use Rattle.geo_seg.proofs.Passed.{passed, d_kept}
 use Rattle.geo_seg.proofs.GapLemmas.{gap_same}
-use Rattle.geo_poly.specs.Outlines.{IsApart}
+use Rattle.geo_poly.specs.OutlineEdges.{IsApart}
 use Rattle.geo_poly.proofs.RunLemmas.{piece}
 use Rattle.geo_poly.proofs.gaps.kept_until.Goals as goal
 

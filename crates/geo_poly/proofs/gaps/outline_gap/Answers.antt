@@ -6,7 +6,7 @@ use Rattle.geo_seg.specs.Distances.{IsGap}
 use Rattle.geo_seg.specs.Inside.{outline, EachEdge}
 use Rattle.geo_seg.proofs.Passed.{d_kept}
 use Rattle.geo_seg.proofs.GapLemmas.{gap_same}
-use Rattle.geo_poly.specs.Outlines.{IsApart}
+use Rattle.geo_poly.specs.OutlineEdges.{IsApart}
 use Rattle.geo_poly.proofs.RunLemmas.{all_edges}
 use Rattle.geo_poly.proofs.Falls.{edge_falls, run_step}
 use Rattle.geo_poly.proofs.gaps.outline_gap.Goals as goal

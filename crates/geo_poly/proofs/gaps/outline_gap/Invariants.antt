@@ -2,8 +2,8 @@ use Rattle.std.proofs.Common.{◌-◌, ◌≤◌}
 use Rattle.geo_seg.specs.Nearer.{IsDistance}
 use Rattle.geo_seg.specs.Distances.{IsGap}
 use Rattle.geo_seg.specs.Inside.{outline, EachEdge}
-use Rattle.geo_poly.specs.Outlines.{IsApart}
-use Rattle.geo_poly.specs.Runs.{between}
+use Rattle.geo_poly.specs.OutlineEdges.{IsApart}
+use Rattle.geo_poly.specs.EdgeRuns.{between}
 use Rattle.geo_poly.proofs.gaps.outline_gap.Given as goal
 
 -- the best so far is that of the edges behind the walk

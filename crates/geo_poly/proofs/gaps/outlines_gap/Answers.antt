@@ -5,8 +5,8 @@ use Rattle.geo_seg.specs.Distances.{IsGap}
 use Rattle.geo_seg.specs.Inside.{outline}
 use Rattle.geo_seg.proofs.Passed.{passed, d_kept}
 use Rattle.geo_seg.proofs.GapLemmas.{gap_same}
-use Rattle.geo_poly.specs.Outlines.{EachApart}
-use Rattle.geo_poly.specs.Parts.{edges_of}
+use Rattle.geo_poly.specs.OutlineEdges.{EachApart}
+use Rattle.geo_poly.specs.OutlineParts.{edges_of}
 use Rattle.geo_poly.proofs.gaps.outlines_gap.Goals as goal
 
 pub returns : goal.returns

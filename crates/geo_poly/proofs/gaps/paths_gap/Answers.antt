@@ -4,7 +4,7 @@ use Rattle.int_algebra.proofs.Scalars.{passed}
 use Rattle.geo_seg.proofs.Passed.{d_kept}
 use Rattle.geo_seg.proofs.GapLemmas.{gap_same}
 use Rattle.geo_seg.specs.Inside.{edge, path, EachEdge}
-use Rattle.geo_poly.specs.Outlines.{IsApart}
+use Rattle.geo_poly.specs.OutlineEdges.{IsApart}
 use Rattle.geo_poly.proofs.Outline.{path_next, path_end}
 use Rattle.geo_poly.proofs.Falls.{edges_fall, rest_step, rest_end}
 use Rattle.geo_poly.proofs.gaps.paths_gap.Goals as goal

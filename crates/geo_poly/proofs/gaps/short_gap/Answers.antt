@@ -3,11 +3,11 @@ use Rattle.std.proofs.lemmas.Int.{ints}
 use Rattle.geo_seg.specs.declared.points.Seg.{Seg}
 use Rattle.geo_seg.specs.Distances.{IsGap}
 use Rattle.geo_seg.specs.Inside.{path}
-use Rattle.geo_seg.specs.Runs.{IsRunBox}
+use Rattle.geo_seg.specs.RunBoxes.{IsRunBox}
 use Rattle.geo_seg.proofs.Passed.{passed, d_kept}
 use Rattle.geo_seg.proofs.GapLemmas.{gap_same}
-use Rattle.geo_poly.specs.Outlines.{EachApart}
-use Rattle.geo_poly.specs.Parts.{edges_of}
+use Rattle.geo_poly.specs.OutlineEdges.{EachApart}
+use Rattle.geo_poly.specs.OutlineParts.{edges_of}
 use Rattle.geo_poly.proofs.RunLemmas.{piece}
 use Rattle.geo_poly.proofs.gaps.short_gap.Goals as goal
 

@@ -2,7 +2,7 @@ use Rattle.std.proofs.Common.{List, take, drop, subst, sym}
 use Rattle.geo_seg.specs.declared.points.Point.{Point}
 use Rattle.geo_seg.specs.declared.points.Seg.{Seg}
 use Rattle.geo_seg.specs.Inside.{outline}
-use Rattle.geo_seg.specs.Runs.{IsRunBox}
+use Rattle.geo_seg.specs.RunBoxes.{IsRunBox}
 use Rattle.geo_poly.proofs.RunLemmas.{outline_length}
 use Rattle.geo_poly.proofs.parity.told.Goals as goal
 

@@ -1,6 +1,6 @@
 use Rattle.geo_seg.specs.Inside.{outline}
 use Rattle.geo_seg.proofs.Passed.{left_in_range}
-use Rattle.geo_poly.specs.Runs.{between}
+use Rattle.geo_poly.specs.EdgeRuns.{between}
 use Rattle.geo_poly.proofs.RunLemmas.{missed_odd, lt_kept}
 use Rattle.geo_poly.proofs.parity.told_by.Goals as goal
 

@@ -3,7 +3,7 @@ use Rattle.geo_seg.specs.Nearer.{AreApart}
 use Rattle.geo_seg.specs.Inside.{outline, IsInside}
 use Rattle.geo_seg.proofs.Choices.{not_and_first, not_and_second, through}
 use Rattle.geo_seg.proofs.Passed.{d_zero, d_positive, at_d}
-use Rattle.geo_poly.specs.Outlines.{EachApart}
+use Rattle.geo_poly.specs.OutlineEdges.{EachApart}
 use Rattle.geo_poly.proofs.Answers.{apart_zero, poly_apart_code}
 use Rattle.geo_poly.proofs.polygons.areas_apart.Goals as goal
 

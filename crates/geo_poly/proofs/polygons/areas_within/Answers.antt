@@ -2,7 +2,7 @@ use Rattle.std.proofs.Common.{ℤ, refl}
 use Rattle.geo_seg.specs.Inside.{outline}
 use Rattle.geo_seg.proofs.Choices.{or_first, or_second, through}
 use Rattle.geo_seg.proofs.Passed.{at_d}
-use Rattle.geo_poly.specs.Outlines.{SomeReached}
+use Rattle.geo_poly.specs.OutlineEdges.{SomeReached}
 use Rattle.geo_poly.proofs.Answers.{poly_within_code}
 use Rattle.geo_poly.proofs.polygons.areas_within.Goals as goal
 

@@ -1,6 +1,6 @@
 use Rattle.std.proofs.Common.{◌↔◌, IsTrue, List, subst, arith}
 use Rattle.geo_seg.specs.declared.points.Point.{Point}
-use Rattle.geo_poly.specs.Outlines.{EndsInside}
+use Rattle.geo_poly.specs.OutlineEdges.{EndsInside}
 use Rattle.geo_poly.proofs.Answers.{ends_inside_is}
 use Rattle.geo_poly.proofs.polygons.ends_inside.Goals as goal
 

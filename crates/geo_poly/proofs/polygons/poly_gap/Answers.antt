@@ -5,7 +5,7 @@ use Rattle.geo_seg.specs.Inside.{outline, IsInside}
 use Rattle.geo_seg.proofs.Choices.{fails_by}
 use Rattle.geo_seg.proofs.Passed.{d_kept}
 use Rattle.geo_seg.proofs.GapLemmas.{gap_same, gap_none, gap_along, above}
-use Rattle.geo_poly.specs.Outlines.{EachApart}
+use Rattle.geo_poly.specs.OutlineEdges.{EachApart}
 use Rattle.geo_poly.proofs.Answers.{poly_apart_code}
 use Rattle.geo_poly.proofs.polygons.poly_gap.Goals as goal
 

@@ -6,7 +6,7 @@ use Rattle.geo_seg.specs.Inside.{EachEdge, outline, IsInside}
 use Rattle.geo_seg.proofs.Choices.{fails_by}
 use Rattle.geo_seg.proofs.Passed.{d_kept}
 use Rattle.geo_seg.proofs.GapLemmas.{gap_same, gap_none, gap_along, above}
-use Rattle.geo_poly.specs.Outlines.{IsApart}
+use Rattle.geo_poly.specs.OutlineEdges.{IsApart}
 use Rattle.geo_poly.proofs.Answers.{seg_apart_code}
 use Rattle.geo_poly.proofs.polygons.poly_seg_gap.Goals as goal
 

@@ -4,9 +4,9 @@ use Rattle.geo_seg.specs.Boxes.{AreClear}
 use Rattle.geo_seg.specs.Inside.{outline, EachEdge}
 use Rattle.geo_seg.proofs.Choices.{fails_by, surely, surely_not}
 use Rattle.geo_seg.proofs.Passed.{passed, d_kept, at_d}
-use Rattle.geo_poly.specs.Outlines.{IsApart, EachApart}
-use Rattle.geo_poly.specs.Runs.{between}
-use Rattle.geo_poly.specs.Parts.{edges_of}
+use Rattle.geo_poly.specs.OutlineEdges.{IsApart, EachApart}
+use Rattle.geo_poly.specs.EdgeRuns.{between}
+use Rattle.geo_poly.specs.OutlineParts.{edges_of}
 use Rattle.geo_poly.proofs.RunLemmas.{both_apart, edges_are, each_on, each_part, each_of_none, apart_on, apart_part, apart_of_none}
 use Rattle.geo_poly.proofs.runs.+parts_apart.Goals as goal
 

@@ -1,8 +1,8 @@
 use Rattle.std.proofs.Common.{◌-◌, ◌+◌, ◌≤◌}
 use Rattle.geo_seg.specs.Inside.{outline}
-use Rattle.geo_poly.specs.Outlines.{EachApart}
-use Rattle.geo_poly.specs.Runs.{between}
-use Rattle.geo_poly.specs.Parts.{edges_of}
+use Rattle.geo_poly.specs.OutlineEdges.{EachApart}
+use Rattle.geo_poly.specs.EdgeRuns.{between}
+use Rattle.geo_poly.specs.OutlineParts.{edges_of}
 use Rattle.geo_poly.proofs.runs.+parts_apart.Given as goal
 
 abbrev pub decreases-parts_apart : goal.decreases-parts_apart

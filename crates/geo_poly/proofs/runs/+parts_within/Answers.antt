@@ -4,9 +4,9 @@ use Rattle.geo_seg.specs.Boxes.{AreClear}
 use Rattle.geo_seg.specs.Inside.{outline, SomeEdge}
 use Rattle.geo_seg.proofs.Choices.{fails_by, surely, surely_not}
 use Rattle.geo_seg.proofs.Passed.{passed, d_kept, at_d, at_more}
-use Rattle.geo_poly.specs.Outlines.{IsReached, SomeReached}
-use Rattle.geo_poly.specs.Runs.{between}
-use Rattle.geo_poly.specs.Parts.{edges_of}
+use Rattle.geo_poly.specs.OutlineEdges.{IsReached, SomeReached}
+use Rattle.geo_poly.specs.EdgeRuns.{between}
+use Rattle.geo_poly.specs.OutlineParts.{edges_of}
 use Rattle.geo_poly.proofs.RunLemmas.{none_both, edges_are, none_on, some_part, none_of_none, beyond_on, reached_part, beyond_of_none}
 use Rattle.geo_poly.proofs.runs.+parts_within.Goals as goal
 

@@ -3,7 +3,7 @@ use Rattle.geo_seg.specs.Boxes.{AreClear}
 use Rattle.geo_seg.specs.Inside.{path, EachEdge}
 use Rattle.geo_seg.proofs.Passed.{at_d}
 use Rattle.geo_seg.proofs.Choices.{surely}
-use Rattle.geo_poly.specs.Outlines.{IsApart}
+use Rattle.geo_poly.specs.OutlineEdges.{IsApart}
 use Rattle.geo_poly.proofs.Covers.{each_clear}
 use Rattle.geo_poly.proofs.RunLemmas.{run_covers}
 use Rattle.geo_poly.proofs.runs.far_apart.Goals as goal

@@ -3,7 +3,7 @@ use Rattle.geo_seg.specs.Boxes.{AreClear}
 use Rattle.geo_seg.specs.Inside.{path, SomeEdge}
 use Rattle.geo_seg.proofs.Passed.{at_d, at_more}
 use Rattle.geo_seg.proofs.Choices.{surely_not}
-use Rattle.geo_poly.specs.Outlines.{IsReached}
+use Rattle.geo_poly.specs.OutlineEdges.{IsReached}
 use Rattle.geo_poly.proofs.Covers.{none_clear}
 use Rattle.geo_poly.proofs.RunLemmas.{run_covers}
 use Rattle.geo_poly.proofs.runs.far_within.Goals as goal

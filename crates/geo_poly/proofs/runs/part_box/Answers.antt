@@ -1,7 +1,7 @@
 use Rattle.std.proofs.Common.{◌-◌, List, take, drop, subst, sym}
 use Rattle.geo_seg.specs.declared.points.Seg.{Seg}
 use Rattle.geo_seg.specs.Inside.{outline}
-use Rattle.geo_seg.specs.Runs.{IsRunBox}
+use Rattle.geo_seg.specs.RunBoxes.{IsRunBox}
 use Rattle.geo_seg.proofs.RunBoxes.{run_box}
 use Rattle.geo_poly.proofs.RunLemmas.{piece, shorter_run}
 use Rattle.geo_poly.proofs.runs.part_box.Goals as goal

@@ -1,6 +1,6 @@
 use Rattle.std.proofs.Common.{◌↔◌, drop}
 use Rattle.geo_seg.specs.Inside.{path}
-use Rattle.geo_poly.specs.Outlines.{EachApart}
+use Rattle.geo_poly.specs.OutlineEdges.{EachApart}
 use Rattle.geo_poly.proofs.runs.paths_apart.Given as goal
 
 -- the edges that are left decide

@@ -4,7 +4,7 @@ use Rattle.geo_seg.specs.declared.points.Seg.{Seg}
 use Rattle.geo_seg.specs.Inside.{edge, path, SomeEdge}
 use Rattle.geo_seg.proofs.Choices.{fails_by, surely, surely_not}
 use Rattle.geo_seg.proofs.Passed.{passed, d_kept}
-use Rattle.geo_poly.specs.Outlines.{IsReached}
+use Rattle.geo_poly.specs.OutlineEdges.{IsReached}
 use Rattle.geo_poly.proofs.Outline.{path_next, path_end, some_step, some_found, some_none}
 use Rattle.geo_poly.proofs.runs.paths_within.Goals as goal
 

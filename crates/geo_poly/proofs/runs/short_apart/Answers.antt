@@ -1,10 +1,10 @@
 use Rattle.std.proofs.Common.{ℤ, ◌-◌, List, take, drop, subst, sym}
 use Rattle.geo_seg.specs.declared.points.Seg.{Seg}
 use Rattle.geo_seg.specs.Inside.{path}
-use Rattle.geo_seg.specs.Runs.{IsRunBox}
+use Rattle.geo_seg.specs.RunBoxes.{IsRunBox}
 use Rattle.geo_seg.proofs.Passed.{at_d}
-use Rattle.geo_poly.specs.Outlines.{EachApart}
-use Rattle.geo_poly.specs.Parts.{edges_of}
+use Rattle.geo_poly.specs.OutlineEdges.{EachApart}
+use Rattle.geo_poly.specs.OutlineParts.{edges_of}
 use Rattle.geo_poly.proofs.Answers.{iff_at}
 use Rattle.geo_poly.proofs.RunLemmas.{piece}
 use Rattle.geo_poly.proofs.runs.short_apart.Goals as goal

@@ -1,7 +1,7 @@
 use Rattle.std.proofs.Common.{◌≤◌, List, length, subst, sym, arith}
 use Rattle.geo_seg.specs.declared.points.Point.{Point}
 use Rattle.geo_seg.specs.declared.points.Seg.{Seg}
-use Rattle.geo_seg.specs.Runs.{IsRunBox}
+use Rattle.geo_seg.specs.RunBoxes.{IsRunBox}
 use Rattle.geo_poly.proofs.RunLemmas.{all_edges, outline_box}
 use Rattle.geo_poly.proofs.runs.whole.Goals as goal
 

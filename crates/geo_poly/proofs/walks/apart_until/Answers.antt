@@ -3,8 +3,8 @@ use Rattle.geo_seg.specs.declared.points.Seg.{Seg}
 use Rattle.geo_seg.specs.Inside.{path, outline, EachEdge}
 use Rattle.geo_seg.proofs.Choices.{fails_by}
 use Rattle.geo_seg.proofs.Passed.{d_kept, at_d}
-use Rattle.geo_poly.specs.Outlines.{IsApart}
-use Rattle.geo_poly.specs.Runs.{between, LiesClear}
+use Rattle.geo_poly.specs.OutlineEdges.{IsApart}
+use Rattle.geo_poly.specs.EdgeRuns.{between, LiesClear}
 use Rattle.geo_poly.proofs.RunLemmas.{each_apart, each_of_none, piece}
 use Rattle.geo_poly.proofs.StepLemmas.{each_there}
 use Rattle.geo_poly.proofs.walks.apart_until.Goals as goal

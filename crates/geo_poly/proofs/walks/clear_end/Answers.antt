@@ -2,7 +2,7 @@ use Rattle.std.proofs.Common.{◌≤◌, List, length, subst, sym, arith}
 use Rattle.geo_seg.specs.declared.points.Point.{Point}
 use Rattle.geo_seg.specs.Inside.{outline}
 use Rattle.geo_seg.proofs.Passed.{passed}
-use Rattle.geo_poly.specs.Runs.{LiesClear}
+use Rattle.geo_poly.specs.EdgeRuns.{LiesClear}
 use Rattle.geo_poly.proofs.RunLemmas.{each_on}
 use Rattle.geo_poly.proofs.walks.clear_end.Goals as goal
 

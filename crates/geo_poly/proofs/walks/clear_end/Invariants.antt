@@ -1,6 +1,6 @@
 use Rattle.std.proofs.Common.{◌-◌, ◌≤◌}
 use Rattle.geo_seg.specs.Inside.{outline, EachEdge}
-use Rattle.geo_poly.specs.Runs.{between, LiesClear}
+use Rattle.geo_poly.specs.EdgeRuns.{between, LiesClear}
 use Rattle.geo_poly.proofs.walks.clear_end.Given as goal
 
 -- the edges behind the walk lie clear

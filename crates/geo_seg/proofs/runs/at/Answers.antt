@@ -1,6 +1,6 @@
 use Rattle.std.proofs.Common.{◌≡◌, ◌*◌, ◌/◌, ℕ, subst, sym, take, drop, div-add-mod', arith}
 use Rattle.geo_seg.specs.declared.boxes.Bounds.{Bounds}
-use Rattle.geo_seg.specs.Runs.{IsRunBox, sides_of}
+use Rattle.geo_seg.specs.RunBoxes.{IsRunBox, sides_of}
 use Rattle.geo_seg.proofs.RunBoxes.{run_at}
 use Rattle.geo_seg.proofs.runs.at.Goals as goal
 

@@ -1,7 +1,7 @@
 use Rattle.std.proofs.Common.{[], ◌∷◌, ◌++◌, List, take, sym, subst}
 use Rattle.std.proofs.lemmas.List.{take_more, take_all}
 use Rattle.geo_seg.specs.declared.points.Point.{Point}
-use Rattle.geo_seg.specs.Corners.{IsCornerBox}
+use Rattle.geo_seg.specs.PolygonCorners.{IsCornerBox}
 use Rattle.geo_seg.proofs.CornerBoxes.{box_fits}
 use Rattle.geo_seg.proofs.runs.corner_box.Goals as goal
 

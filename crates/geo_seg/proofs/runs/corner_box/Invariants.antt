@@ -1,5 +1,5 @@
 use Rattle.std.proofs.Common.{◌∷◌, take}
-use Rattle.geo_seg.specs.Corners.{IsCornerBox}
+use Rattle.geo_seg.specs.PolygonCorners.{IsCornerBox}
 use Rattle.geo_seg.proofs.runs.corner_box.Given as goal
 
 abbrev pub invariant-loop-corner : goal.invariant-loop-corner

@@ -1,9 +1,9 @@
 use Rattle.std.proofs.Common.{◌≤◌, ◌<◌, ◌-◌, ◌++◌, ◌∷◌, List, length, take, drop, subst, sym, inl, inr, arith}
 use Rattle.geo_seg.specs.declared.frames.Frame.{Frame}
 use Rattle.geo_seg.specs.declared.boxes.Bounds.{Bounds}
-use Rattle.geo_seg.specs.Corners.{IsCornerBox}
+use Rattle.geo_seg.specs.PolygonCorners.{IsCornerBox}
 use Rattle.geo_seg.specs.Inside.{outline}
-use Rattle.geo_seg.specs.Runs.{AreRuns}
+use Rattle.geo_seg.specs.RunBoxes.{AreRuns}
 use Rattle.geo_seg.proofs.CornerBoxes.{box_fits}
 use Rattle.geo_seg.proofs.RunBoxes.{outline_is, rest_is, EndsAt, IsRowTo, row_grows, row_done}
 use Rattle.geo_seg.proofs.runs.row.Goals as goal

@@ -1,7 +1,7 @@
 use Rattle.std.proofs.Common.{sym, subst, pos, arith}
 use Rattle.geo_seg.specs.declared.frames.Frame.{Frame}
 use Rattle.geo_seg.specs.Boxes.{FitsWithin}
-use Rattle.geo_seg.specs.Runs.{sides_of}
+use Rattle.geo_seg.specs.RunBoxes.{sides_of}
 use Rattle.geo_seg.specs.ShiftedRuns.{IsShiftedFrame}
 use Rattle.geo_seg.proofs.Rewritten.{not_yet, one_written, all_written}
 use Rattle.geo_seg.proofs.shifts.shift_frames.Goals as goal

@@ -4,7 +4,7 @@ use Rattle.geo_seg.specs.declared.shapes.Shape.{Shape}
 use Rattle.geo_seg.specs.Distances.{Apart}
 use Rattle.board_items.specs.declared.parts.Part.{Part}
 use Rattle.int_algebra.proofs.Scalars.{passed_length}
-use Rattle.item_copper.specs.Sides.{is_taken}
+use Rattle.item_copper.specs.MeasuredSides.{is_taken}
 use Rattle.item_copper.proofs.Gaps.{gap_start, gap_more, gap_skip, gap_end, gap_same, other_falls}
 use Rattle.item_copper.proofs.facing.gap_to_listed.Goals.{then-takes, else-takes}
 use Rattle.item_copper.proofs.facing.gap_to_listed.Goals as goal

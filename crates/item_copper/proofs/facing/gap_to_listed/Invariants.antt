@@ -1,7 +1,7 @@
 use Rattle.std.proofs.Common.{pos, ◌*ℤ◌, All, take}
 use Rattle.std.specs.List.{filter}
 use Rattle.geo_seg.specs.Distances.{Apart, IsGap}
-use Rattle.item_copper.specs.Sides.{is_taken}
+use Rattle.item_copper.specs.MeasuredSides.{is_taken}
 use Rattle.item_copper.proofs.facing.gap_to_listed.Given as goal
 
 -- the gap to those so far

@@ -1,7 +1,7 @@
 use Rattle.std.proofs.Common.{pos, ◌*ℤ◌, All, take}
 use Rattle.std.specs.List.{filter}
 use Rattle.geo_seg.specs.Distances.{Apart, IsGap}
-use Rattle.item_copper.specs.Sides.{is_taken, parts_at}
+use Rattle.item_copper.specs.MeasuredSides.{is_taken, parts_at}
 use Rattle.item_copper.proofs.facing.listed_gap.Given as goal
 
 -- the gap of those so far

@@ -4,7 +4,7 @@ use Rattle.geo_seg.proofs.Choices.{surely, surely_not}
 use Rattle.geo_seg.specs.Distances.{Meet}
 use Rattle.board_items.specs.declared.parts.Part.{Part}
 use Rattle.item_copper.specs.declared.side.SomeParts.{SomeParts}
-use Rattle.item_copper.specs.Sides.{is_taken, parts_at}
+use Rattle.item_copper.specs.MeasuredSides.{is_taken, parts_at}
 use Rattle.item_copper.proofs.Chosen.{some_chosen, none_chosen, one_more}
 use Rattle.item_copper.proofs.Chosen.{not_false}
 use Rattle.item_copper.proofs.facing.listed_meet.Goals.{else-takes-via-then-takes+else-meets_side, else-takes-via-else-takes}

@@ -1,7 +1,7 @@
 use Rattle.std.proofs.Common.{IsTrue}
 use Rattle.std.specs.List.{Any, AllWithin}
 use Rattle.geo_seg.specs.Distances.{Meet}
-use Rattle.item_copper.specs.Sides.{is_taken, parts_at}
+use Rattle.item_copper.specs.MeasuredSides.{is_taken, parts_at}
 use Rattle.item_copper.proofs.facing.listed_meet.Given as goal
 
 abbrev pub invariant-loop-part : goal.invariant-loop-part

@@ -1,6 +1,6 @@
 use Rattle.std.proofs.Common.{◌≡◌, false, refl, sym, ◌∙◌}
 use Rattle.geo_seg.proofs.Choices.{surely, surely_not}
-use Rattle.item_copper.specs.Sides.{is_taken}
+use Rattle.item_copper.specs.MeasuredSides.{is_taken}
 use Rattle.item_copper.proofs.Chosen.{one_more}
 use Rattle.item_copper.proofs.SideLists.{none_up_to, not_none}
 use Rattle.item_copper.proofs.facing.lists_none.Goals as goal

@@ -1,6 +1,6 @@
 use Rattle.std.proofs.Common.{◌≡◌, false}
 use Rattle.std.specs.List.{AllWithin}
-use Rattle.item_copper.specs.Sides.{is_taken}
+use Rattle.item_copper.specs.MeasuredSides.{is_taken}
 use Rattle.item_copper.proofs.facing.lists_none.Given as goal
 
 abbrev pub invariant-loop-part : goal.invariant-loop-part

@@ -3,7 +3,7 @@ use Rattle.geo_seg.proofs.Choices.{surely, surely_not}
 use Rattle.geo_seg.specs.declared.shapes.Shape.{Shape}
 use Rattle.geo_seg.specs.Distances.{Meet}
 use Rattle.board_items.specs.declared.parts.Part.{Part}
-use Rattle.item_copper.specs.Sides.{is_taken}
+use Rattle.item_copper.specs.MeasuredSides.{is_taken}
 use Rattle.item_copper.proofs.Chosen.{some_chosen, none_chosen}
 use Rattle.item_copper.proofs.facing.meets_listed.Goals as goal
 

@@ -1,7 +1,7 @@
 use Rattle.std.proofs.Common.{IsTrue}
 use Rattle.std.specs.List.{AllWithin}
 use Rattle.geo_seg.specs.Distances.{Meet}
-use Rattle.item_copper.specs.Sides.{is_taken}
+use Rattle.item_copper.specs.MeasuredSides.{is_taken}
 use Rattle.item_copper.proofs.facing.meets_listed.Given as goal
 
 abbrev pub invariant-loop-other : goal.invariant-loop-other

@@ -2,9 +2,9 @@ use Rattle.std.proofs.Common.{ℤ, pos, ◌*ℤ◌, List, ◌∷◌, [], All, re
 use Rattle.std.proofs.lemmas.Int.{ints}
 use Rattle.geo_seg.specs.Distances.{Apart, IsGap}
 use Rattle.board_items.specs.declared.parts.Part.{Part}
-use Rattle.board_items.specs.Copper.{Keeps}
+use Rattle.board_items.specs.CopperPairs.{Keeps}
 use Rattle.int_algebra.proofs.Scalars.{passed_length}
-use Rattle.item_copper.specs.Sides.{parts_at}
+use Rattle.item_copper.specs.MeasuredSides.{parts_at}
 use Rattle.item_copper.proofs.Gaps.{gap_same, gap_of_lists}
 use Rattle.item_copper.proofs.SideLists.{of_listed, of_single, gap_of_one, single_part, listed_parts}
 use Rattle.item_copper.proofs.facing.sides_gap.Goals as goal

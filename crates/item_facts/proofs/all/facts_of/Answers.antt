@@ -1,5 +1,5 @@
 use Rattle.std.proofs.Common.{ℕ, List, sym, subst}
-use Rattle.item_facts.specs.Near.{AreEnough}
+use Rattle.item_facts.specs.NearItems.{AreEnough}
 use Rattle.item_facts.proofs.NearTiles.{all_enough}
 use Rattle.item_facts.proofs.all.facts_of.Goals as goal
 

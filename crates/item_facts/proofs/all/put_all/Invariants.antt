@@ -1,4 +1,4 @@
-use Rattle.board_items.specs.Walks.{items_left}
+use Rattle.board_items.specs.BoardIterators.{items_left}
 use Rattle.item_facts.specs.Known.{AreKnown, AreLeft, HasFactsSoFar}
 use Rattle.item_facts.proofs.all.put_all.Given as goal
 

@@ -1,8 +1,8 @@
 use Rattle.std.proofs.Common.{ℕ, List, sym, subst}
 use Rattle.board_items.specs.declared.item.Item.{Item}
 use Rattle.rule_pick.specs.FactsOf.{MeetsArea, AreNamesOf}
-use Rattle.item_facts.specs.Fronts.{AreFront}
-use Rattle.item_facts.specs.Near.{picked}
+use Rattle.item_facts.specs.FoundNames.{ArePrefix}
+use Rattle.item_facts.specs.NearItems.{picked}
 use Rattle.item_facts.proofs.Named.{at_end}
 use Rattle.item_facts.proofs.Picked.{names_of_picked, picked_past}
 use Rattle.item_facts.proofs.names.areas_near.Goals as goal
@@ -15,4 +15,4 @@ returns c =
     subst (λ (list : List (List ℕ)). AreNamesOf (MeetsArea c.args.item.now) items list) (sym c.of.ensures)
     (names_of_picked (MeetsArea c.args.item.now) 0 c.args.board.now.next_id items c.soundness.ensures.sound.ids 0 ids c.requires.rises c.requires.areas names
     (at_end (MeetsArea c.args.item.now) (picked items ids) names
-    (subst (λ (left : List (ℕ × Item)). AreFront (MeetsArea c.args.item.now) (picked items ids) left names) (picked_past items ids c.loop-id.id-index c.loop-id-test.false) c.loop-id.invariant)))
+    (subst (λ (left : List (ℕ × Item)). ArePrefix (MeetsArea c.args.item.now) (picked items ids) left names) (picked_past items ids c.loop-id.id-index c.loop-id-test.false) c.loop-id.invariant)))

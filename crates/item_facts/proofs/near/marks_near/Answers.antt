@@ -1,5 +1,5 @@
 use Rattle.std.proofs.Common.{Result, Ok, Err, OnOk, ℕ, List, Contains, sym, subst}
-use Rattle.item_facts.specs.Near.{AreEnough}
+use Rattle.item_facts.specs.NearItems.{AreEnough}
 use Rattle.item_facts.proofs.NearTiles.{meets_nothing, enough, all_enough}
 use Rattle.item_facts.proofs.near.marks_near.Goals as goal
 

@@ -4,7 +4,7 @@ use Rattle.board_items.specs.Boards.{item_at}
 use Rattle.rule_pick.specs.declared.facts.Facts.{Facts}
 use Rattle.rule_pick.specs.AllFacts.{HasFacts}
 use Rattle.rule_pick.specs.ById.{facts_at}
-use Rattle.item_facts.specs.Slots.{AreFilled}
+use Rattle.item_facts.specs.FactSlots.{AreFilled}
 use Rattle.item_facts.proofs.Filled.{all_found, whole}
 use Rattle.item_facts.proofs.threads.facts_of_all.Goals as goal
 

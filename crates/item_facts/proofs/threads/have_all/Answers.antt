@@ -2,7 +2,7 @@ use Rattle.std.proofs.Common.{◌≡◌, refl, subst, ℕ, List, true, Option, N
 use Rattle.std.specs.Option.{is_some, option_copied}
 use denote.Ref.{Bor}
 use Rattle.board_items.specs.declared.item.Item.{Item}
-use Rattle.board_items.specs.Walks.{items_left}
+use Rattle.board_items.specs.BoardIterators.{items_left}
 use Rattle.rule_pick.specs.declared.facts.Facts.{Facts}
 use Rattle.item_facts.proofs.Filled.{HaveSoFar, one_more}
 use Rattle.item_facts.proofs.threads.have_all.Goals as goal

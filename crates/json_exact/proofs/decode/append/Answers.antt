@@ -1,4 +1,4 @@
-use Rattle.json_exact.proofs.Fronts.{all_appended}
+use Rattle.json_exact.proofs.Prefixes.{all_appended}
 use Rattle.json_exact.proofs.decode.append.Goals as goal
 
 pub returns : goal.returns

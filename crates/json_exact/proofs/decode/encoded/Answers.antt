@@ -1,4 +1,4 @@
-use Rattle.json_exact.proofs.Fronts.{one_byte, two_bytes, three_bytes, four_bytes}
+use Rattle.json_exact.proofs.Prefixes.{one_byte, two_bytes, three_bytes, four_bytes}
 use Rattle.json_exact.proofs.decode.encoded.Goals as goal
 
 pub returns-then-code-lt128-clause-bytes : goal.returns-then-code-lt128-clause-bytes

@@ -1,6 +1,6 @@
 use Rattle.std.proofs.Common.{length, drop, ◌-◌, ◌≤◌, ◌≡◌}
 use Rattle.json_exact.specs.Characters.{decoded}
-use Rattle.json_exact.specs.Bytes.{same_bytes}
+use Rattle.json_exact.specs.ByteComparisons.{same_bytes}
 use Rattle.json_exact.proofs.decode.spells.Given as goal
 
 abbrev pub invariant-characters : goal.invariant-characters

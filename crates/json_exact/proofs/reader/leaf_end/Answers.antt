@@ -1,6 +1,6 @@
 use Rattle.std.proofs.Common.{sym, ◌∙◌, inl, inr, ◌⊎◌, ◌≡◌, true, get_or}
 use Rattle.json_exact.specs.Json.{null_word, true_word, false_word}
-use Rattle.json_exact.specs.Numbers.{is_digit}
+use Rattle.json_exact.specs.JsonNumbers.{is_digit}
 use Rattle.json_exact.proofs.Turns.{leaf_string, leaf_number, leaf_word}
 use Rattle.json_exact.proofs.reader.leaf_end.Goals as goal
 use Rattle.json_exact.proofs.reader.leaf_end.Goals.{then-b-eq45, else-b-eq45}

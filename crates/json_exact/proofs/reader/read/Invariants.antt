@@ -1,5 +1,5 @@
 use Rattle.std.proofs.Common.{length, ◌-◌}
-use Rattle.json_exact.specs.Reading.{Reads}
+use Rattle.json_exact.specs.JsonRests.{Reads}
 use Rattle.json_exact.proofs.reader.read.Given as goal
 
 abbrev pub invariant-reading : goal.invariant-reading

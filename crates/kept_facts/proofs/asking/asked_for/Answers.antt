@@ -2,8 +2,8 @@ use Rattle.std.proofs.Common.{◌∙◌, inl, inr, ap, subst, Option, arith}
 use Rattle.std.specs.Option.{option_copied}
 use Rattle.std.proofs.lemmas.List.{get_or_default}
 use Rattle.board_items.specs.declared.item.Item.{Item}
-use Rattle.kept_facts.specs.Kept.{mark_at, mark_of}
-use Rattle.kept_facts.specs.Walks.{HasConcerned}
+use Rattle.kept_facts.specs.FactUpdates.{mark_at, mark_of}
+use Rattle.kept_facts.specs.ConcernedItems.{HasConcerned}
 use Rattle.kept_facts.proofs.Concerns.{asked_more}
 use Rattle.kept_facts.proofs.asking.asked_for.Goals as goal
 

@@ -1,4 +1,4 @@
-use Rattle.kept_facts.specs.Walks.{AreAskedTo}
+use Rattle.kept_facts.specs.ConcernedItems.{AreAskedTo}
 use Rattle.kept_facts.proofs.asking.asked_for.Given as goal
 
 abbrev pub invariant-loop-place : goal.invariant-loop-place

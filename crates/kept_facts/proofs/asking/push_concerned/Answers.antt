@@ -1,6 +1,6 @@
 use Rattle.std.proofs.Common.{Result, Ok, Err, OnOk, subst}
 use Rattle.std.specs.Option.{option_copied}
-use Rattle.kept_facts.specs.Walks.{HasOthers}
+use Rattle.kept_facts.specs.ConcernedItems.{HasOthers}
 use Rattle.kept_facts.proofs.Concerns.{concerned}
 use Rattle.kept_facts.proofs.asking.push_concerned.Goals as goal
 

@@ -1,7 +1,7 @@
 use Rattle.std.proofs.Common.{◌∙◌, ◌+◌, sym, ap, subst, take}
 use Rattle.std.specs.Option.{option_copied}
 use Rattle.std.proofs.lemmas.List.{get_or_default}
-use Rattle.kept_facts.specs.Walks.{HasOthers}
+use Rattle.kept_facts.specs.ConcernedItems.{HasOthers}
 use Rattle.kept_facts.proofs.Concerns.{other_more, other_skip}
 use Rattle.kept_facts.proofs.asking.push_others.Goals as goal
 use Rattle.kept_facts.proofs.asking.push_others.Goals.{then-not-is_unconcerned+in_ok-push, else-not-is_unconcerned}

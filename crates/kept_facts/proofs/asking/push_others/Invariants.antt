@@ -1,6 +1,6 @@
 use Rattle.std.proofs.Common.{take}
 use Rattle.std.specs.Option.{option_copied}
-use Rattle.kept_facts.specs.Walks.{HasOthers}
+use Rattle.kept_facts.specs.ConcernedItems.{HasOthers}
 use Rattle.kept_facts.proofs.asking.push_others.Given as goal
 
 abbrev pub invariant-loop-id : goal.invariant-loop-id

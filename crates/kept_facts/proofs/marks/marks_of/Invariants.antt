@@ -1,5 +1,5 @@
 use Rattle.std.proofs.Common.{◌≡◌, ◌++◌, map, drop}
-use Rattle.kept_facts.specs.Kept.{mark_at}
+use Rattle.kept_facts.specs.FactUpdates.{mark_at}
 use Rattle.kept_facts.proofs.marks.marks_of.Given as goal
 
 abbrev pub invariant-loop-id : goal.invariant-loop-id

@@ -1,5 +1,5 @@
 use Rattle.std.proofs.Common.{List, sym, subst, ap, ◌∙◌}
-use Rattle.board_items.specs.Walks.{nets_left}
+use Rattle.board_items.specs.BoardIterators.{nets_left}
 use Rattle.kept_nets.specs.declared.works.Work.{Work}
 use Rattle.kept_nets.proofs.Gathered.{AreWorksSoFar, real, work_less, work_all}
 use Rattle.kept_nets.proofs.all.all_works.Goals as goal

@@ -1,6 +1,6 @@
 use Rattle.std.proofs.Common.{sym, subst, List}
 use Rattle.board_items.specs.declared.parts.Part.{Part}
-use Rattle.board_items.specs.Parts.{hole_parts}
+use Rattle.board_items.specs.ItemParts.{hole_parts}
 use Rattle.rule_pick.specs.FactsOf.{SomeOn}
 use Rattle.kind_subjects.proofs.Unfaced.{shared_in}
 use Rattle.kind_subjects.proofs.faces.holed_copper.Goals as goal

@@ -1,7 +1,7 @@
 use Rattle.std.proofs.Common.{inl, inr, sym, ◌∙◌, arith}
 use Rattle.std.proofs.lemmas.List.Elements.{All-nil}
 use Rattle.kind_subjects.specs.declared.subject.Subject.TheVariants.{Sides, Length, Whole}
-use Rattle.kind_subjects.specs.Sides.{IsUnfaced}
+use Rattle.kind_subjects.specs.MeasuredPairs.{IsUnfaced}
 use Rattle.kind_subjects.proofs.Unfaced.{kind_within}
 use Rattle.kind_subjects.proofs.faces.places_between.Goals as goal
 

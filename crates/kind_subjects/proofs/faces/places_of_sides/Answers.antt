@@ -1,7 +1,7 @@
 use Rattle.std.proofs.Common.{sym, subst}
 use Rattle.kind_subjects.specs.declared.subject.Faces.{Faces}
 use Rattle.kind_subjects.specs.Facing.{faced}
-use Rattle.kind_subjects.specs.Sides.{AreFacedWithin}
+use Rattle.kind_subjects.specs.MeasuredPairs.{AreFacedWithin}
 use Rattle.kind_subjects.proofs.Unfaced.{hole_within}
 use Rattle.kind_subjects.proofs.faces.places_of_sides.Goals as goal
 

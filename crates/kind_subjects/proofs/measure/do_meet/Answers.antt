@@ -1,7 +1,7 @@
 use Rattle.std.proofs.Common.{◌↔◌, List, IsTrue, sym, ap, subst}
 use Rattle.item_copper.proofs.Chosen.{not_false}
 use Rattle.kind_subjects.specs.Facing.{Facing}
-use Rattle.kind_subjects.specs.Sides.{facing_of, facings_of, SomeFacingMeets}
+use Rattle.kind_subjects.specs.MeasuredPairs.{facing_of, facings_of, SomeFacingMeets}
 use Rattle.kind_subjects.proofs.FacedLists.{one_meets, first_meets, second_meets}
 use Rattle.kind_subjects.proofs.measure.do_meet.Goals as goal
 

@@ -4,7 +4,7 @@ use Rattle.geo_seg.specs.Distances.{IsGap}
 use Rattle.int_algebra.proofs.Scalars.{passed_length}
 use Rattle.item_copper.proofs.Gaps.{gap_same}
 use Rattle.kind_subjects.specs.Facing.{Facing}
-use Rattle.kind_subjects.specs.Sides.{AllFacingsKeep}
+use Rattle.kind_subjects.specs.MeasuredPairs.{AllFacingsKeep}
 use Rattle.kind_subjects.proofs.measure.gap_at.Goals as goal
 
 pub returns : goal.returns

@@ -1,6 +1,6 @@
 use Rattle.std.proofs.Common.{List, subst}
 use Rattle.kind_subjects.specs.Facing.{Facing}
-use Rattle.kind_subjects.specs.Sides.{AllFacingsKeep}
+use Rattle.kind_subjects.specs.MeasuredPairs.{AllFacingsKeep}
 use Rattle.kind_subjects.proofs.measure.may_face.Goals as goal
 
 pub returns-clause-keep : goal.returns-clause-keep

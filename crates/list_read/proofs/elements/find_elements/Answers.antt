@@ -1,7 +1,7 @@
 use Rattle.std.proofs.Common.{◌≡◌, ◌∙◌, sym, ap, length, map, option_map, arith, List, Option}
 use Rattle.std.proofs.lemmas.List.{length-map}
 use Rattle.sexpr_read.specs.Tree.{Tree}
-use Rattle.sexpr_read.specs.Views.{tree_of, trees_left}
+use Rattle.sexpr_read.specs.TreeViews.{tree_of, trees_left}
 use Rattle.list_read.proofs.Walks.{completed, completed_none, completed_more, completed_passed, completed_all}
 use Rattle.list_read.proofs.elements.find_elements.Goals as goal
 

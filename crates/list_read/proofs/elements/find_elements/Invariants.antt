@@ -1,5 +1,5 @@
 use Rattle.std.proofs.Common.{◌≡◌, map, option_map}
-use Rattle.sexpr_read.specs.Views.{tree_of, trees_left}
+use Rattle.sexpr_read.specs.TreeViews.{tree_of, trees_left}
 use Rattle.list_read.specs.Wanted.{found_in}
 use Rattle.list_read.proofs.Walks.{completed}
 use Rattle.list_read.proofs.elements.find_elements.Given as goal

@@ -1,8 +1,8 @@
 use Rattle.std.proofs.Common.{◌≡◌}
 use Rattle.std.specs.Prelude.{find}
 use Rattle.sexpr_read.specs.Tree.{parts}
-use Rattle.sexpr_read.specs.Views.{tree_of, trees_left}
-use Rattle.list_read.specs.Elements.{is_naming}
+use Rattle.sexpr_read.specs.TreeViews.{tree_of, trees_left}
+use Rattle.list_read.specs.NamedElements.{is_naming}
 use Rattle.list_read.proofs.elements.naming.Given as goal
 
 -- the first among those that are left is the first of all

@@ -1,6 +1,6 @@
 use Rattle.std.proofs.Common.{◌≡◌, map, take, drop, ◌++◌, option_map}
-use Rattle.sexpr_read.specs.Views.{tree_of}
-use Rattle.list_read.specs.Walk.{noted}
+use Rattle.sexpr_read.specs.TreeViews.{tree_of}
+use Rattle.list_read.specs.ListWalk.{noted}
 use Rattle.list_read.proofs.elements.note_any.Given as goal
 
 -- up to k the part is noted, and from there on all is as it was

@@ -1,4 +1,4 @@
-use Rattle.sexpr_read.specs.Views.{tree_of}
+use Rattle.sexpr_read.specs.TreeViews.{tree_of}
 use Rattle.list_read.proofs.Turns.{note_turn}
 use Rattle.list_read.proofs.elements.note_in_turn.Goals as goal
 

@@ -1,5 +1,5 @@
 use Rattle.std.proofs.Common.{◌∙◌, ◌<◌, length, map, option_map, ap, arith}
-use Rattle.sexpr_read.specs.Views.{tree_of}
+use Rattle.sexpr_read.specs.TreeViews.{tree_of}
 use Rattle.list_read.proofs.Walks.{note_here, keep_here}
 use Rattle.list_read.proofs.elements.note_word.Goals as goal
 use Rattle.list_read.proofs.elements.note_word.Goals.{then-is_new_word, else-is_new_word}

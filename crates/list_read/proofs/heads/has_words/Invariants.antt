@@ -1,8 +1,8 @@
 use Rattle.std.proofs.Common.{◌≡◌, ◌||◌}
 use Rattle.std.specs.List.{list_any}
 use Rattle.sexpr_read.specs.Tree.{parts}
-use Rattle.sexpr_read.specs.Views.{tree_of, trees_left}
-use Rattle.list_read.specs.Heads.{is_text}
+use Rattle.sexpr_read.specs.TreeViews.{tree_of, trees_left}
+use Rattle.list_read.specs.ListHeads.{is_text}
 use Rattle.list_read.proofs.heads.has_words.Given as goal
 
 -- each word was found, or stands among those that are left, exactly where it stands in the list

@@ -8,6 +8,6 @@ pub returns : goal.returns
 returns g t c =
     let low = c.args.count / 2 in
     let high = c.args.count - low in
-    let front : c.in_ok-whole.whole.items ≡ c.args.text.items ++ item_lines c.args.first low = grind (arith, common_steps) in
+    let prefix : c.in_ok-whole.whole.items ≡ c.args.text.items ++ item_lines c.args.first low = grind (arith, common_steps) in
     let back : c.deref.result.now ≡ item_lines (c.args.first + low) high = grind (arith, common_steps) in
-    rw (c.in_ok-push_piece.ensures, front, back) (item_lines_in_parts c.args.text.items c.args.first low high c.args.count (omega arith))
+    rw (c.in_ok-push_piece.ensures, prefix, back) (item_lines_in_parts c.args.text.items c.args.first low high c.args.count (omega arith))

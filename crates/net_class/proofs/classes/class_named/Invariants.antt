@@ -1,6 +1,6 @@
 use Rattle.std.proofs.Common.{◌≡◌, drop, map, bytes_eq}
 use Rattle.std.specs.Prelude.{find}
-use Rattle.net_class.specs.Views.{plain_class}
+use Rattle.net_class.specs.ClassValues.{plain_class}
 use Rattle.net_class.proofs.classes.class_named.Given as goal
 
 -- the first among those that are left is the first of all

@@ -1,5 +1,5 @@
 use Rattle.json_exact.specs.Handles.{json_of}
-use Rattle.net_class.specs.Views.{json_if}
+use Rattle.net_class.specs.ClassValues.{json_if}
 use Rattle.net_class.proofs.Whole.{classes_are}
 use Rattle.net_class.proofs.classes.classes_of.Goals as goal
 

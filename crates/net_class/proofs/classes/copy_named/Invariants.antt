@@ -1,5 +1,5 @@
 use Rattle.std.proofs.Common.{◌≡◌, map, drop, ◌++◌}
-use Rattle.net_class.specs.Views.{plain_class}
+use Rattle.net_class.specs.ClassValues.{plain_class}
 use Rattle.net_class.proofs.classes.copy_named.Given as goal
 
 abbrev pub invariant-loop-class : goal.invariant-loop-class

@@ -1,5 +1,5 @@
 use Rattle.std.proofs.Common.{◌≡◌, map, drop, ◌++◌}
-use Rattle.net_class.specs.Views.{plain_pattern}
+use Rattle.net_class.specs.ClassValues.{plain_pattern}
 use Rattle.net_class.proofs.classes.copy_patterns.Given as goal
 
 abbrev pub invariant-loop-pattern : goal.invariant-loop-pattern

@@ -1,6 +1,6 @@
 use Rattle.std.proofs.Common.{◌≡◌, drop, map}
-use Rattle.net_class.specs.Classes.{greatest_of}
-use Rattle.net_class.specs.Views.{plain_class}
+use Rattle.net_class.specs.NetClasses.{greatest_of}
+use Rattle.net_class.specs.ClassValues.{plain_class}
 use Rattle.net_class.proofs.classes.greatest_of.Given as goal
 
 -- the greatest so far, and what is left, give what all gives

@@ -1,7 +1,7 @@
 use Rattle.std.proofs.Common.{◌≡◌, drop, map, false}
 use Rattle.std.specs.Prelude.{find}
 use Rattle.net_class.specs.Wild.{matches}
-use Rattle.net_class.specs.Views.{plain_pattern}
+use Rattle.net_class.specs.ClassValues.{plain_pattern}
 use Rattle.net_class.proofs.classes.pattern_of.Given as goal
 
 -- the first among those that are left is the first of all

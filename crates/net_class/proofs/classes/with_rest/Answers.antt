@@ -1,6 +1,6 @@
 use Rattle.std.proofs.Common.{map}
 use Rattle.json_exact.specs.Handles.{json_of}
-use Rattle.net_class.specs.Views.{json_if, plain_class, plain_pattern, mins_of}
+use Rattle.net_class.specs.ClassValues.{json_if, plain_class, plain_pattern, mins_of}
 use Rattle.net_class.proofs.Whole.{rest_is}
 use Rattle.net_class.proofs.classes.with_rest.Goals as goal
 

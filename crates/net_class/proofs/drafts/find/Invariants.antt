@@ -1,7 +1,7 @@
 use Rattle.std.proofs.Common.{◌≡◌, drop, map}
 use Rattle.std.specs.Prelude.{find}
 use Rattle.net_class.specs.ClassesOf.{is_named}
-use Rattle.net_class.specs.Views.{written_class}
+use Rattle.net_class.specs.ClassValues.{written_class}
 use Rattle.net_class.proofs.drafts.find.Given as goal
 
 -- the first among those that are left is the first of all

@@ -1,4 +1,4 @@
-use Rattle.net_class.specs.Views.{json_if}
+use Rattle.net_class.specs.ClassValues.{json_if}
 use Rattle.net_class.proofs.Whole.{sizes_are}
 use Rattle.net_class.proofs.mins.sizes_in.Goals as goal
 

@@ -1,7 +1,7 @@
 use Rattle.std.proofs.Common.{sym, ◌∙◌, arith, ◌<◌, length, ap, List, ℕ}
 use Rattle.std.proofs.lemmas.Bool.{eqb-true, eqb-false}
 use Rattle.std.proofs.lemmas.List.{take_rest}
-use Rattle.net_class.specs.Runs.{matches_an_end}
+use Rattle.net_class.specs.PatternRuns.{matches_an_end}
 use Rattle.net_class.proofs.Searching.{run_false, run_true, star_is, end_is_match}
 use Rattle.net_class.proofs.patterns.is_match.Goals as goal
 

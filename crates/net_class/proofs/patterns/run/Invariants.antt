@@ -1,5 +1,5 @@
 use Rattle.std.proofs.Common.{◌≡◌, drop}
-use Rattle.net_class.specs.Runs.{run_of}
+use Rattle.net_class.specs.PatternRuns.{run_of}
 use Rattle.net_class.proofs.patterns.run.Given as goal
 
 abbrev pub invariant-loop-i : goal.invariant-loop-i

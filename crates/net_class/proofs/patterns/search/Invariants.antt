@@ -1,5 +1,5 @@
 use Rattle.std.proofs.Common.{◌≡◌, length}
-use Rattle.net_class.specs.Runs.{matches_an_end}
+use Rattle.net_class.specs.PatternRuns.{matches_an_end}
 use Rattle.net_class.proofs.patterns.search.Given as goal
 
 abbrev pub invariant-places : goal.invariant-places

@@ -1,7 +1,7 @@
 use Rattle.std.proofs.Common.{◌≡◌, []}
 use Rattle.json_exact.specs.Json.{items}
 use Rattle.json_exact.specs.Handles.{json_of, items_left}
-use Rattle.net_class.specs.Walk.{with_classes}
+use Rattle.net_class.specs.ProjectWalk.{with_classes}
 use Rattle.net_class.proofs.reading.read_classes.Given as goal
 
 -- the classes so far, and what is left, give what all gives

@@ -1,6 +1,6 @@
 use Rattle.std.proofs.Common.{List, ℕ, All, Contains, sym, subst, nat_eq}
 use Rattle.std.proofs.lemmas.Result.{IfOk-weaker}
-use Rattle.net_groups.specs.Classes.{Rises}
+use Rattle.net_groups.specs.ConnectedClasses.{Rises}
 use Rattle.net_groups.specs.Numbering.{number_of}
 use Rattle.net_groups.proofs.NetIds.{ids_rise}
 use Rattle.net_groups.proofs.AnchorsOf.{groups_few, members_listed, anchors_are, anchors_few, anchors_placed, anchors_occur}

@@ -7,7 +7,7 @@ use Rattle.net_groups.proofs.labels.visit_tile.Goals.{then-newly_asked+in_ok-pus
 
 pub newly_asked-requires-clause-other_place : goal.newly_asked-requires-clause-other_place
 newly_asked-requires-clause-other_place c =
-    let lt = place_at c.args.net.now.rooms.now c.args.index.now c.args.tile c.requires.holds c.near-other-items.result.now c.near-other-items.ensures.entries c.loop-other.other-index c.loop-other-test.true in
+    let lt = place_at c.args.net.now.item_boxes.now c.args.index.now c.args.tile c.requires.holds c.near-other-items.result.now c.near-other-items.ensures.entries c.loop-other.other-index c.loop-other-test.true in
     omega (arith, lt, c.requires.many)
 
 pub newly_asked-requires-clause-other : goal.newly_asked-requires-clause-other
@@ -15,12 +15,12 @@ newly_asked-requires-clause-other c = fits_at c.args.index.now c.args.tile c.nea
 
 pub bounds-labels-found : goal.bounds-labels-found
 bounds-labels-found c =
-    let lt = place_at c.args.net.now.rooms.now c.args.index.now c.args.tile c.requires.holds c.near-other-items.result.now c.near-other-items.ensures.entries c.loop-other.other-index c.loop-other-test.true in
+    let lt = place_at c.args.net.now.item_boxes.now c.args.index.now c.args.tile c.requires.holds c.near-other-items.result.now c.near-other-items.ensures.entries c.loop-other.other-index c.loop-other-test.true in
     omega (arith, lt, c.requires.many, c.requires.places, c.loop-other.invariant.places)
 
 pub loop-other-preserved : goal.loop-other-preserved
 loop-other-preserved c =
-    let lt = place_at c.args.net.now.rooms.now c.args.index.now c.args.tile c.requires.holds c.near-other-items.result.now c.near-other-items.ensures.entries c.loop-other.other-index c.loop-other-test.true in
+    let lt = place_at c.args.net.now.item_boxes.now c.args.index.now c.args.tile c.requires.holds c.near-other-items.result.now c.near-other-items.ensures.entries c.loop-other.other-index c.loop-other-test.true in
     let inside : (get_or c.near-other-items.result.now c.loop-other.other-index no_entry).id < length c.args.net.now.ids.now = omega (arith, lt, c.requires.many) in
     elim c.if-newly_asked.branch [
       | then-newly_asked+in_ok-push w ↦

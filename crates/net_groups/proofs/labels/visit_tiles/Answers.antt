@@ -1,14 +1,14 @@
 use Rattle.std.proofs.Common.{arith}
 use Rattle.net_groups.specs.Touching.{TouchOn}
-use Rattle.net_groups.proofs.Owns.{room_fits}
+use Rattle.net_groups.proofs.Owns.{item_box_fits}
 use Rattle.net_groups.proofs.Walks.{walk_begun, walk_more, walk_done}
 use Rattle.net_groups.proofs.labels.visit_tiles.Goals as goal
 
 pub area-area-requires : goal.area-area-requires
-area-area-requires c = room_fits c.args.net.now.rooms.now c.args.own c.requires.rooms.fit c.requires.own
+area-area-requires c = item_box_fits c.args.net.now.item_boxes.now c.args.own c.requires.item_boxes.fit c.requires.own
 
 pub visit_tile-requires-clause-own : goal.visit_tile-requires-clause-own
-visit_tile-requires-clause-own c = room_fits c.args.net.now.rooms.now c.args.own c.requires.rooms.fit c.requires.own
+visit_tile-requires-clause-own c = item_box_fits c.args.net.now.item_boxes.now c.args.own c.requires.item_boxes.fit c.requires.own
 
 pub tiles-init : goal.tiles-init
 tiles-init c =
@@ -21,5 +21,5 @@ tiles-preserved c =
 
 pub returns : goal.returns
 returns c =
-    walk_done (TouchOn c.args.net.now.board.now) c.args.net.now.ids.now c.args.net.now.rooms.now c.args.index.now c.area-area.result c.args.own c.args.label c.args.labels.now c.tiles.labels c.args.stack.now.items c.tiles.stack.items c.tiles.tile c.tiles.invariant
-    c.requires.rooms c.requires.holds c.area-area.ensures.sound c.requires.own c.area-area.ensures.tiles (λ tile past. c.end-end.ensures.none_after tile (omega arith))
+    walk_done (TouchOn c.args.net.now.board.now) c.args.net.now.ids.now c.args.net.now.item_boxes.now c.args.index.now c.area-area.result c.args.own c.args.label c.args.labels.now c.tiles.labels c.args.stack.now.items c.tiles.stack.items c.tiles.tile c.tiles.invariant
+    c.requires.item_boxes c.requires.holds c.area-area.ensures.sound c.requires.own c.area-area.ensures.tiles (λ tile past. c.end-end.ensures.none_after tile (omega arith))

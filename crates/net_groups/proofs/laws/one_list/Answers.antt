@@ -1,5 +1,5 @@
-use Rattle.net_groups.specs.Chains.{Chain}
-use Rattle.net_groups.specs.Groups.{HasCopper, Touch}
+use Rattle.net_groups.specs.StepChains.{Chain}
+use Rattle.net_groups.specs.NetGroups.{HasCopper, Touch}
 use Rattle.net_groups.proofs.Once.{classes_once}
 use Rattle.net_groups.proofs.laws.one_list.Goals as goal
 

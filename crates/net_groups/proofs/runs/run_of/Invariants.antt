@@ -4,4 +4,4 @@ use Rattle.geo_seg.specs.Boxes.{IsPartOf}
 use Rattle.net_groups.proofs.runs.run_of.Given as goal
 
 abbrev pub invariant-loop-place : goal.invariant-loop-place
-invariant-loop-place l = (k : ℕ) (d : Bounds) → l.low ≤ k → k < l.place → k < length l.rooms → IsPartOf (slice_index_or l.rooms k d) l.run
+invariant-loop-place l = (k : ℕ) (d : Bounds) → l.low ≤ k → k < l.place → k < length l.item_boxes → IsPartOf (slice_index_or l.item_boxes k d) l.run

@@ -2,4 +2,4 @@ use Rattle.net_groups.proofs.Held.{HoldsTo}
 use Rattle.net_groups.proofs.spreading.index_of.Given as goal
 
 abbrev pub invariant-loop-place : goal.invariant-loop-place
-invariant-loop-place l = HoldsTo l.rooms l.place l.index
+invariant-loop-place l = HoldsTo l.item_boxes l.place l.index

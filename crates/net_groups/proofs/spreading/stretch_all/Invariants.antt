@@ -1,5 +1,5 @@
 use Rattle.net_groups.proofs.Stretched.{AreStretchedTo}
 use Rattle.net_groups.proofs.spreading.stretch_all.Given as goal
 
-abbrev pub invariant-loop-room : goal.invariant-loop-room
-invariant-loop-room l = AreStretchedTo l.stretch l.rooms l.room-index l.wide.items
+abbrev pub invariant-loop-item_box : goal.invariant-loop-item_box
+invariant-loop-item_box l = AreStretchedTo l.stretch l.item_boxes l.item_box-index l.wide.items

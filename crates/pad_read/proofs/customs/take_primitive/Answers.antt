@@ -1,5 +1,5 @@
 use Rattle.std.proofs.Common.{◌≡◌, subst, Ok, Option}
-use Rattle.sexpr_read.specs.Views.{tree_of}
+use Rattle.sexpr_read.specs.TreeViews.{tree_of}
 use Rattle.part_read.specs.declared.drawings.GraphicKind.{GraphicKind}
 use Rattle.pad_read.specs.CustomPads.{primitive_by, primitive_kind}
 use Rattle.pad_read.proofs.Gathering.{taken}

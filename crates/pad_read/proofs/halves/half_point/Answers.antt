@@ -6,9 +6,9 @@ use Rattle.pad_read.proofs.halves.half_point.Goals as goal
 
 pub returns : goal.returns
 returns c =
-    let spot = c.args.spot in
-    let fits_x : SFits w64 spot.x = search rules in
-    let fits_y : SFits w64 spot.y = search rules in
-    is_tested (fits_half spot) (half_point_at spot) _
-    (λ h. one_point _ (half_point_at spot h) (clean spot.x fits_x) (clean spot.y fits_y))
+    let raw_point = c.args.raw_point in
+    let fits_x : SFits w64 raw_point.x = search rules in
+    let fits_y : SFits w64 raw_point.y = search rules in
+    is_tested (fits_half raw_point) (half_point_at raw_point) _
+    (λ h. one_point _ (half_point_at raw_point h) (clean raw_point.x fits_x) (clean raw_point.y fits_y))
     (sym c.fits_half.ensures ∙ c.if-not-fits_half.false)

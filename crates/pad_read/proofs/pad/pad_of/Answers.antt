@@ -1,13 +1,13 @@
 use Rattle.std.proofs.Common.{◌∙◌, ap, sym, subst, codes, ℤ, Result, w64, rules}
 use mir.Val.{SFits}
-use Rattle.sexpr_read.specs.Views.{tree_of}
+use Rattle.sexpr_read.specs.TreeViews.{tree_of}
 use Rattle.board_errors.specs.declared.errors.BoardError.{BoardError}
 use Rattle.copper_layers.specs.declared.set.LayerSet.{LayerSet}
 use Rattle.board_items.specs.declared.item.Item.{Item}
-use Rattle.list_read.specs.Elements.{element}
-use Rattle.part_read.specs.Elements.{in_needed}
-use Rattle.part_read.specs.LayersOf.{layers_named}
-use Rattle.part_read.specs.Nodes.{Gives}
+use Rattle.list_read.specs.NamedElements.{element}
+use Rattle.part_read.specs.ElementResults.{in_needed}
+use Rattle.part_read.specs.BoardLayers.{layers_named}
+use Rattle.part_read.specs.NodeResults.{Gives}
 use Rattle.part_read.proofs.Shapes.{clean}
 use Rattle.pad_read.specs.PadOf.{label_of}
 use Rattle.pad_read.proofs.Padding.{pad_by}

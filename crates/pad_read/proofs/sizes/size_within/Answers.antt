@@ -1,6 +1,6 @@
 use Rattle.std.proofs.Common.{◌≡◌, sym, subst, ℤ, pos, ◌≤ℤ◌, arith}
 use Rattle.std.proofs.lemmas.Int.{ints}
-use Rattle.sexpr_read.specs.Views.{tree_of}
+use Rattle.sexpr_read.specs.TreeViews.{tree_of}
 use Rattle.int_algebra.proofs.Scalars.{passed}
 use Rattle.part_read.proofs.Reach.{size_in_range}
 use Rattle.pad_read.proofs.sizes.size_within.Goals as goal

@@ -1,10 +1,10 @@
 use Rattle.std.proofs.Common.{refl, sym, ap, subst, ◌∙◌, ℤ, pos, ◌≤ℤ◌, ◌*ℤ◌, false, arith}
 use Rattle.int_algebra.proofs.Scalars.{passed_length, passed_to}
-use Rattle.net_class.specs.Classes.{PlainMins}
+use Rattle.net_class.specs.NetClasses.{PlainMins}
 use Rattle.rule_pick.specs.Deciding.{minimum}
-use Rattle.kind_subjects.specs.Lengths.{times}
+use Rattle.kind_subjects.specs.LimitedLengths.{times}
 use Rattle.pair_check.specs.Alone.{IsEnough}
-use Rattle.pair_check.specs.Views.{deciders_of}
+use Rattle.pair_check.specs.CheckViews.{deciders_of}
 use Rattle.pair_check.proofs.EnoughAlone.{minimum_enough}
 use Rattle.pair_check.proofs.alone.enough_for.Goals as goal
 

@@ -1,6 +1,6 @@
 use Rattle.cond_lang.specs.declared.kind.Kind.TheVariants.{Keepout}
 use Rattle.pair_check.specs.Rows.{deciders}
-use Rattle.pair_check.specs.Views.{checked_by}
+use Rattle.pair_check.specs.CheckViews.{checked_by}
 use Rattle.pair_check.specs.Stages.{pair_of}
 use Rattle.pair_check.proofs.RowsOfPair.{pair_with}
 use Rattle.pair_check.proofs.pair.add_keepout.Goals as goal

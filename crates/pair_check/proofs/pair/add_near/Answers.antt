@@ -1,6 +1,6 @@
 use Rattle.std.proofs.Common.{sym, ◌∙◌}
 use Rattle.pair_check.specs.Rows.{deciders}
-use Rattle.pair_check.specs.Views.{checked_by}
+use Rattle.pair_check.specs.CheckViews.{checked_by}
 use Rattle.pair_check.specs.Stages.{pair_of}
 use Rattle.pair_check.proofs.RowsOfPair.{pair_unasked, pair_uncompared}
 use Rattle.pair_check.proofs.pair.add_near.Goals.{else-asked-via-then-asked+else-is_compared, else-asked-via-else-asked}

@@ -1,5 +1,5 @@
 use Rattle.pair_check.specs.Rows.{deciders}
-use Rattle.pair_check.specs.Views.{checked_by}
+use Rattle.pair_check.specs.CheckViews.{checked_by}
 use Rattle.pair_check.specs.Stages.{pair_of}
 use Rattle.pair_check.proofs.PassedKinds.{not_both_holes}
 use Rattle.pair_check.proofs.pair.add_of_holes.Goals as goal

@@ -1,6 +1,6 @@
 use Rattle.std.proofs.Common.{sym, ◌∙◌}
 use Rattle.pair_check.specs.Rows.{deciders}
-use Rattle.pair_check.specs.Views.{checked_by}
+use Rattle.pair_check.specs.CheckViews.{checked_by}
 use Rattle.pair_check.specs.Stages.{pair_of}
 use Rattle.pair_check.proofs.RowsOfPair.{not_meeting, pair_kept, kept_apart, pair_short}
 use Rattle.pair_check.proofs.PassedKinds.{of_one_net}

@@ -1,6 +1,6 @@
 use Rattle.std.proofs.Common.{sym, ◌∙◌}
 use Rattle.pair_check.specs.Rows.{deciders}
-use Rattle.pair_check.specs.Views.{checked_by}
+use Rattle.pair_check.specs.CheckViews.{checked_by}
 use Rattle.pair_check.specs.Stages.{pair_of}
 use Rattle.pair_check.proofs.PassedKinds.{of_copper}
 use Rattle.pair_check.proofs.pair.add_of_outlines.Goals as goal

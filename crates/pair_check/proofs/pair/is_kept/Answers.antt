@@ -1,11 +1,11 @@
 use Rattle.std.proofs.Common.{inl, inr, ℕ, ◌<◌, ◌≤◌}
 use Rattle.cond_lang.specs.declared.kind.Kind.TheVariants.{Clearance}
 use Rattle.kind_subjects.specs.declared.layer.RowLayer.{RowLayer}
-use Rattle.kind_subjects.specs.Layers.{rank}
-use Rattle.kind_subjects.specs.Sides.{FaceWithin}
+use Rattle.kind_subjects.specs.TriedLayers.{rank}
+use Rattle.kind_subjects.specs.MeasuredPairs.{FaceWithin}
 use Rattle.pair_check.specs.Pairs.{Deciders, Pair}
 use Rattle.pair_check.specs.Rows.{deciders}
-use Rattle.pair_check.specs.Views.{checked_by}
+use Rattle.pair_check.specs.CheckViews.{checked_by}
 use Rattle.pair_check.specs.Stages.{pair_of, IsNearOrMeets}
 use Rattle.kind_subjects.proofs.NearLayers.{short_as_clearance}
 use Rattle.kind_subjects.proofs.Unfaced.{meet_within, near_within}

@@ -1,5 +1,5 @@
 use Rattle.pair_check.specs.Rows.{deciders}
-use Rattle.pair_check.specs.Views.{checked_by}
+use Rattle.pair_check.specs.CheckViews.{checked_by}
 use Rattle.pair_check.specs.Stages.{pair_of, IsNearOrMeets}
 use Rattle.kind_subjects.proofs.TriedLayers.{NoneBefore}
 use Rattle.pair_check.proofs.pair.is_kept.Given as goal

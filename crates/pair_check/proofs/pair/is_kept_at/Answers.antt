@@ -3,12 +3,12 @@ use Rattle.rule_pick.specs.Picks.{Pick, pick_of}
 use Rattle.rule_pick.proofs.OnePick.{one_pick}
 use Rattle.int_algebra.proofs.Scalars.{passed_length}
 use Rattle.cond_lang.specs.declared.kind.Kind.TheVariants.{Clearance}
-use Rattle.kind_subjects.specs.Layers.{asked_layer}
+use Rattle.kind_subjects.specs.TriedLayers.{asked_layer}
 use Rattle.kind_subjects.specs.declared.layer.RowLayer.{RowLayer}
 use Rattle.kind_subjects.specs.Facing.{MeetAt, KeepAt}
 use Rattle.pair_check.specs.Pairs.{Deciders, Pair, IsNearAt}
 use Rattle.pair_check.specs.Rows.{deciders}
-use Rattle.pair_check.specs.Views.{checked_by}
+use Rattle.pair_check.specs.CheckViews.{checked_by}
 use Rattle.pair_check.specs.Stages.{pair_of, IsNearOrMeets}
 use Rattle.kind_subjects.proofs.NearLayers.{not_near, short_as_clearance}
 use Rattle.pair_check.proofs.pair.is_kept_at.Goals as goal

@@ -4,7 +4,7 @@ use Rattle.kind_subjects.specs.declared.layer.RowLayer.{RowLayer}
 use Rattle.kind_subjects.specs.Facing.{MeetAt}
 use Rattle.kind_subjects.specs.Compared.{is_compared}
 use Rattle.pair_check.specs.Rows.{deciders}
-use Rattle.pair_check.specs.Views.{checked_by}
+use Rattle.pair_check.specs.CheckViews.{checked_by}
 use Rattle.pair_check.specs.Stages.{pair_of}
 use Rattle.kind_subjects.proofs.NearLayers.{meeting_layer}
 use Rattle.kind_subjects.proofs.TriedLayers.{first_in}

@@ -2,10 +2,10 @@ use Rattle.std.proofs.Common.{ℤ, refl, sym, ap, subst, Some}
 use Rattle.rule_pick.specs.Picks.{Pick, pick_of}
 use Rattle.rule_pick.proofs.OnePick.{one_pick}
 use Rattle.int_algebra.proofs.Scalars.{passed_length}
-use Rattle.kind_subjects.specs.Layers.{asked_layer}
+use Rattle.kind_subjects.specs.TriedLayers.{asked_layer}
 use Rattle.kind_subjects.specs.Facing.{KeepAt, TooNear}
 use Rattle.pair_check.specs.Rows.{deciders}
-use Rattle.pair_check.specs.Views.{checked_by}
+use Rattle.pair_check.specs.CheckViews.{checked_by}
 use Rattle.kind_subjects.proofs.NearLayers.{not_near, passed_gap}
 use Rattle.pair_check.proofs.Picks.{counts_not, counts_so}
 use Rattle.pair_check.proofs.pair.near_at.Goals as goal

@@ -1,5 +1,5 @@
 use Rattle.pair_check.specs.Rows.{deciders}
-use Rattle.pair_check.specs.Views.{checked_by}
+use Rattle.pair_check.specs.CheckViews.{checked_by}
 use Rattle.kind_subjects.proofs.LengthRanges.{passed_is_length, passed_gap_within}
 use Rattle.kind_subjects.proofs.NearLayers.{near_layer}
 use Rattle.pair_check.proofs.RowsOfPair.{near_in_order}

@@ -1,8 +1,8 @@
 use Rattle.std.proofs.Common.{Some}
 use Rattle.rule_pick.specs.Picks.{pick_of}
-use Rattle.kind_subjects.specs.Layers.{asked_layer}
+use Rattle.kind_subjects.specs.TriedLayers.{asked_layer}
 use Rattle.pair_check.specs.Rows.{deciders}
-use Rattle.pair_check.specs.Views.{checked_by}
+use Rattle.pair_check.specs.CheckViews.{checked_by}
 use Rattle.pair_check.proofs.Picks.{picked_as}
 use Rattle.pair_check.proofs.pair.picked_at.Goals as goal
 

@@ -1,5 +1,5 @@
 use Rattle.pair_check.specs.Pairs.{Pair}
-use Rattle.pair_check.specs.Views.{checked_by}
+use Rattle.pair_check.specs.CheckViews.{checked_by}
 use Rattle.pair_check.proofs.RowsOfPair.{rows_of_pair}
 use Rattle.pair_check.proofs.pair.test_two.Goals as goal
 

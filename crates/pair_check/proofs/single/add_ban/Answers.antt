@@ -1,6 +1,6 @@
 use Rattle.std.proofs.Common.{sym, ◌∙◌}
 use Rattle.pair_check.specs.Rows.{deciders}
-use Rattle.pair_check.specs.Views.{checked_by}
+use Rattle.pair_check.specs.CheckViews.{checked_by}
 use Rattle.pair_check.proofs.RowsOfSingle.{single_without, broken_of, says_ban}
 use Rattle.pair_check.proofs.AskedKinds.{forbids_nothing}
 use Rattle.pair_check.proofs.single.add_ban.Goals as goal

@@ -1,5 +1,5 @@
 use Rattle.pair_check.specs.Rows.{deciders}
-use Rattle.pair_check.specs.Views.{checked_by}
+use Rattle.pair_check.specs.CheckViews.{checked_by}
 use Rattle.pair_check.proofs.RowsOfSingle.{single_with}
 use Rattle.pair_check.proofs.single.add_forbidden.Goals as goal
 

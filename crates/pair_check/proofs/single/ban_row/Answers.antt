@@ -2,7 +2,7 @@ use Rattle.std.proofs.Common.{refl, arith}
 use Rattle.std.proofs.lemmas.Int.{ints}
 use Rattle.rule_pick.specs.Picks.{pick_of}
 use Rattle.pair_check.specs.Rows.{deciders}
-use Rattle.pair_check.specs.Views.{checked_by}
+use Rattle.pair_check.specs.CheckViews.{checked_by}
 use Rattle.pair_check.proofs.RowsOfSingle.{ban_in_order, ban_layer, breaks_ban}
 use Rattle.pair_check.proofs.single.ban_row.Goals as goal
 

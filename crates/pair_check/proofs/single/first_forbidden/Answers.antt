@@ -1,11 +1,11 @@
 use Rattle.std.proofs.Common.{sym, ap, subst, ◌∙◌}
 use Rattle.rule_pick.specs.Picks.{pick_of}
 use Rattle.kind_subjects.specs.declared.layer.RowLayer.{RowLayer}
-use Rattle.kind_subjects.specs.Layers.{rank, IsTried}
+use Rattle.kind_subjects.specs.TriedLayers.{rank, IsTried}
 use Rattle.kind_subjects.specs.SingleLayers.{IsAskedAt}
 use Rattle.pair_check.specs.Singles.{IsForbiddenAt}
 use Rattle.pair_check.specs.Rows.{deciders}
-use Rattle.pair_check.specs.Views.{checked_by}
+use Rattle.pair_check.specs.CheckViews.{checked_by}
 use Rattle.kind_subjects.proofs.SingleLayers.{asked_at}
 use Rattle.kind_subjects.proofs.TriedLayers.{none_at_start, none_in_none, none_here, none_untried, first_here, tried_in, untried_in}
 use Rattle.pair_check.proofs.single.first_forbidden.Goals.{in-Some+in_default-forbidden_at, in_default}

@@ -2,11 +2,11 @@ use Rattle.std.proofs.Common.{sym, ap, subst, ◌∙◌, ℤ}
 use Rattle.rule_pick.specs.Picks.{pick_of}
 use Rattle.int_algebra.proofs.Scalars.{passed}
 use Rattle.kind_subjects.specs.declared.layer.RowLayer.{RowLayer}
-use Rattle.kind_subjects.specs.Layers.{rank, IsTried}
+use Rattle.kind_subjects.specs.TriedLayers.{rank, IsTried}
 use Rattle.kind_subjects.specs.SingleLayers.{IsMeasuredAt}
 use Rattle.pair_check.specs.Singles.{IsOffAt}
 use Rattle.pair_check.specs.Rows.{deciders}
-use Rattle.pair_check.specs.Views.{checked_by}
+use Rattle.pair_check.specs.CheckViews.{checked_by}
 use Rattle.pair_check.specs.Stages.{IsOff}
 use Rattle.kind_subjects.proofs.LengthRanges.{within_passed}
 use Rattle.kind_subjects.proofs.TriedLayers.{NoneBefore, none_at_start, none_in_none, none_here, none_untried, first_here, tried_in, untried_in}

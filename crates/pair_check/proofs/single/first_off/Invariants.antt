@@ -1,6 +1,6 @@
 use Rattle.pair_check.specs.Singles.{IsOffAt}
 use Rattle.pair_check.specs.Rows.{deciders}
-use Rattle.pair_check.specs.Views.{checked_by}
+use Rattle.pair_check.specs.CheckViews.{checked_by}
 use Rattle.kind_subjects.proofs.TriedLayers.{NoneBefore}
 use Rattle.pair_check.proofs.single.first_off.Given as goal
 

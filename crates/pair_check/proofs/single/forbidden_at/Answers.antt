@@ -1,10 +1,10 @@
 use Rattle.std.proofs.Common.{◌≡◌, ap, subst, None, Bool, true, false}
 use Rattle.rule_pick.specs.Picks.{Pick, pick_of}
 use Rattle.rule_pick.proofs.OnePick.{one_pick}
-use Rattle.kind_subjects.specs.Layers.{asked_layer}
+use Rattle.kind_subjects.specs.TriedLayers.{asked_layer}
 use Rattle.pair_check.specs.Singles.{IsPickAlone, Forbids}
 use Rattle.pair_check.specs.Rows.{deciders}
-use Rattle.pair_check.specs.Views.{checked_by}
+use Rattle.pair_check.specs.CheckViews.{checked_by}
 use Rattle.pair_check.proofs.Picks.{picked_as, counts_not}
 use Rattle.pair_check.proofs.single.forbidden_at.Goals.{else-counts-via-then-counts+else-forbids, else-counts-via-else-counts}
 use Rattle.pair_check.proofs.single.forbidden_at.Goals as goal

@@ -1,10 +1,10 @@
 use Rattle.std.proofs.Common.{refl, sym, ap, subst, ◌∙◌, ℤ, Some}
 use Rattle.rule_pick.specs.Picks.{pick_of}
 use Rattle.int_algebra.proofs.Scalars.{passed, passed_length}
-use Rattle.kind_subjects.specs.Lengths.{times, IsQuotient}
+use Rattle.kind_subjects.specs.LimitedLengths.{times, IsQuotient}
 use Rattle.pair_check.specs.Singles.{BreaksLimit}
 use Rattle.pair_check.specs.Rows.{deciders}
-use Rattle.pair_check.specs.Views.{checked_by}
+use Rattle.pair_check.specs.CheckViews.{checked_by}
 use Rattle.kind_subjects.proofs.LengthRanges.{passed_is_length, passed_is_within, within_passed}
 use Rattle.kind_subjects.proofs.SingleLayers.{limit_layer}
 use Rattle.pair_check.proofs.RowsOfSingle.{limit_in_order, breaks_limit}

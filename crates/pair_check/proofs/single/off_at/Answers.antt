@@ -1,10 +1,10 @@
 use Rattle.std.proofs.Common.{◌≡◌, ℤ, sym, subst, None}
 use Rattle.rule_pick.specs.Picks.{Pick, pick_of}
 use Rattle.rule_pick.proofs.OnePick.{one_pick}
-use Rattle.kind_subjects.specs.Layers.{asked_layer}
+use Rattle.kind_subjects.specs.TriedLayers.{asked_layer}
 use Rattle.pair_check.specs.Singles.{IsPickAlone, BreaksLimit}
 use Rattle.pair_check.specs.Rows.{deciders}
-use Rattle.pair_check.specs.Views.{checked_by}
+use Rattle.pair_check.specs.CheckViews.{checked_by}
 use Rattle.kind_subjects.proofs.LengthRanges.{within_passed}
 use Rattle.pair_check.proofs.Picks.{picked_as}
 use Rattle.pair_check.proofs.single.off_at.Goals as goal

@@ -1,4 +1,4 @@
-use Rattle.pair_check.specs.Views.{checked_by}
+use Rattle.pair_check.specs.CheckViews.{checked_by}
 use Rattle.pair_check.proofs.RowsOfSingle.{rows_of_item}
 use Rattle.pair_check.proofs.single.test_item.Goals as goal
 

@@ -1,5 +1,5 @@
 use Rattle.std.proofs.Common.{◌≡◌, sym, subst, ℤ, pos, ◌≤ℤ◌}
-use Rattle.sexpr_read.specs.Views.{tree_of}
+use Rattle.sexpr_read.specs.TreeViews.{tree_of}
 use Rattle.int_algebra.proofs.Scalars.{passed}
 use Rattle.part_read.proofs.Reach.{size_within}
 use Rattle.std.proofs.Common.{arith}

@@ -1,7 +1,7 @@
 use Rattle.std.proofs.Common.{◌≡◌, ◌∙◌, sym, true, false, ℕ, List, ◌∷◌, Some, IsTrue}
 use Rattle.std.specs.Prelude.{codes}
 use Rattle.sexpr_read.specs.Tree.{value}
-use Rattle.sexpr_read.specs.Views.{tree_of}
+use Rattle.sexpr_read.specs.TreeViews.{tree_of}
 use Rattle.list_read.proofs.Words.{text_is}
 use Rattle.part_read.proofs.LayerNames.{front_is, back_is, no_layer}
 use Rattle.part_read.proofs.layers.layer_number.Goals as goal

@@ -1,7 +1,7 @@
 use Rattle.std.proofs.Common.{◌∙◌, sym, ap}
 use Rattle.sexpr_read.specs.Tree.{parts}
-use Rattle.sexpr_read.specs.Views.{tree_of, trees_left}
-use Rattle.part_read.specs.LayersOf.{listed, layers_listed}
+use Rattle.sexpr_read.specs.TreeViews.{tree_of, trees_left}
+use Rattle.part_read.specs.BoardLayers.{listed, layers_listed}
 use Rattle.part_read.proofs.Layering.{no_layers, gathered, gathered_begun, gathered_more, few_none, few_union, gathered_few}
 use Rattle.part_read.proofs.layers.layers_listed.Goals as goal
 

@@ -1,7 +1,7 @@
 use Rattle.std.proofs.Common.{◌≡◌}
 use Rattle.sexpr_read.specs.Tree.{parts}
-use Rattle.sexpr_read.specs.Views.{tree_of, trees_left}
-use Rattle.part_read.specs.LayersOf.{listed}
+use Rattle.sexpr_read.specs.TreeViews.{tree_of, trees_left}
+use Rattle.part_read.specs.BoardLayers.{listed}
 use Rattle.part_read.proofs.Layering.{no_layers, gathered, AreFew}
 use Rattle.part_read.proofs.layers.layers_listed.Given as goal
 

@@ -1,7 +1,7 @@
 use Rattle.std.proofs.Common.{◌∙◌, sym, ap, rules, ◌<◌, ◌^◌}
 use Rattle.sexpr_read.specs.Tree.{parts}
-use Rattle.sexpr_read.specs.Views.{tree_of, trees_left}
-use Rattle.part_read.specs.LayersOf.{named, layers_named}
+use Rattle.sexpr_read.specs.TreeViews.{tree_of, trees_left}
+use Rattle.part_read.specs.BoardLayers.{named, layers_named}
 use Rattle.part_read.proofs.Layering.{gathered, gathered_begun, gathered_all, gathered_more, union_within}
 use Rattle.part_read.proofs.layers.layers_named.Goals as goal
 

@@ -1,8 +1,8 @@
 use Rattle.std.proofs.Common.{◌≡◌, IsTrue}
 use Rattle.sexpr_read.specs.Tree.{parts}
-use Rattle.sexpr_read.specs.Views.{tree_of, trees_left}
+use Rattle.sexpr_read.specs.TreeViews.{tree_of, trees_left}
 use Rattle.copper_layers.specs.Layers.{is_within}
-use Rattle.part_read.specs.LayersOf.{named}
+use Rattle.part_read.specs.BoardLayers.{named}
 use Rattle.part_read.proofs.Layering.{no_layers, gathered}
 use Rattle.part_read.proofs.layers.layers_named.Given as goal
 

@@ -1,7 +1,7 @@
 use Rattle.std.proofs.Common.{◌≡◌, true, false}
 use Rattle.sexpr_read.specs.Tree.{is_list}
-use Rattle.sexpr_read.specs.Views.{tree_of}
-use Rattle.part_read.specs.LayersOf.{listed}
+use Rattle.sexpr_read.specs.TreeViews.{tree_of}
+use Rattle.part_read.specs.BoardLayers.{listed}
 use Rattle.part_read.proofs.Layering.{gives_none, gives_single}
 use Rattle.part_read.proofs.Listing.{listed_passed, listed_none, listed_some}
 use Rattle.part_read.proofs.layers.listed.Goals as goal

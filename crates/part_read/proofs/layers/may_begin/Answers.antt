@@ -1,4 +1,4 @@
-use Rattle.sexpr_read.specs.Views.{tree_of}
+use Rattle.sexpr_read.specs.TreeViews.{tree_of}
 use Rattle.part_read.proofs.LayerNames.{never_empty, other_first}
 use Rattle.part_read.proofs.layers.may_begin.Goals as goal
 

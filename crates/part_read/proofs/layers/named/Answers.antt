@@ -1,7 +1,7 @@
 use Rattle.std.proofs.Common.{◌≡◌, ◌∙◌, rules, ◌<◌, ◌^◌, true, false}
 use Rattle.sexpr_read.specs.Tree.{is_list}
-use Rattle.sexpr_read.specs.Views.{tree_of}
-use Rattle.part_read.specs.LayersOf.{named, is_all_copper, is_outer, outer_of}
+use Rattle.sexpr_read.specs.TreeViews.{tree_of}
+use Rattle.part_read.specs.BoardLayers.{named, is_all_copper, is_outer, outer_of}
 use Rattle.list_read.proofs.Words.{text_is}
 use Rattle.part_read.proofs.Layering.{gives_none, gives_one, gives_single, gives_any}
 use Rattle.part_read.proofs.Listing.{named_passed, named_all, named_outer, named_none, named_some}

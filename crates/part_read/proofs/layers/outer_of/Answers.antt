@@ -1,4 +1,4 @@
-use Rattle.part_read.specs.LayersOf.{layer_if}
+use Rattle.part_read.specs.BoardLayers.{layer_if}
 use Rattle.part_read.proofs.Layering.{any_union, union_within}
 use Rattle.part_read.proofs.layers.outer_of.Goals as goal
 

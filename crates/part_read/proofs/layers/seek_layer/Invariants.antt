@@ -1,8 +1,8 @@
 use Rattle.std.proofs.Common.{◌≡◌, drop}
-use Rattle.sexpr_read.specs.Views.{tree_of}
+use Rattle.sexpr_read.specs.TreeViews.{tree_of}
 use Rattle.copper_layers.specs.Layers.{layer_names}
 use Rattle.std.specs.List.{position_from}
-use Rattle.list_read.specs.Heads.{is_text}
+use Rattle.list_read.specs.ListHeads.{is_text}
 use Rattle.part_read.proofs.layers.seek_layer.Given as goal
 
 -- the name is sought among the names that are left

@@ -5,5 +5,5 @@ use Rattle.part_read.proofs.on_board.point_at.Goals as goal
 
 pub returns-then-fits_board : goal.returns-then-fits_board
 returns-then-fits_board c =
-    is_tested (fits_board c.args.spot) (point_at c.args.spot) c.doubled.result
-    (λ h. one_point c.doubled.result (point_at c.args.spot h) c.doubled.ensures.x c.doubled.ensures.y) (sym c.fits_board.ensures ∙ c.if-fits_board.true)
+    is_tested (fits_board c.args.raw_point) (point_at c.args.raw_point) c.doubled.result
+    (λ h. one_point c.doubled.result (point_at c.args.raw_point h) c.doubled.ensures.x c.doubled.ensures.y) (sym c.fits_board.ensures ∙ c.if-fits_board.true)

@@ -5,7 +5,7 @@ use Rattle.board_items.specs.declared.item.Item.{Item}
 use Rattle.board_items.specs.Boards.{PlainBoard, with_item}
 use Rattle.part_read.specs.Ready.{AreReady}
 use Rattle.pcb_read.specs.BoardOf.{with_items, HasFirstOf}
-use Rattle.pcb_read.proofs.Rooming.{first_ready, others_ready, same_copper, item_last}
+use Rattle.pcb_read.proofs.Capacities.{first_ready, others_ready, same_copper, item_last}
 use Rattle.pcb_read.proofs.adding.add_items.Goals as goal
 
 -- the board is the first one with the items before those that are left
@@ -44,11 +44,11 @@ add_item-requires-clause-admitted c =
     let at = c.loop-item in
     (first_ready at.board c.args.unit c.in-Some.item _ (taken at.board c.args.unit _ c.in-Some.item _ c.in-Some.ensures.steps.0 at.invariant.ready)).admitted
 
-pub add_item-requires-clause-room : goal.add_item-requires-clause-room
-add_item-requires-clause-room c =
+pub add_item-requires-clause-capacity : goal.add_item-requires-clause-capacity
+add_item-requires-clause-capacity c =
     let at = c.loop-item in
-    let room = (taken at.board c.args.unit _ c.in-Some.item _ c.in-Some.ensures.steps.0 at.invariant.ready).room in
-    omega (arith, room)
+    let capacity = (taken at.board c.args.unit _ c.in-Some.item _ c.in-Some.ensures.steps.0 at.invariant.ready).capacity in
+    omega (arith, capacity)
 
 pub loop-item-preserved : goal.loop-item-preserved
 loop-item-preserved c =

@@ -1,7 +1,7 @@
 use Rattle.std.proofs.Common.{subst, List, length, take, drop, ◌++◌}
-use Rattle.sexpr_read.specs.Views.{trees_left}
+use Rattle.sexpr_read.specs.TreeViews.{trees_left}
 use Rattle.pcb_read.specs.declared.slot.Slot.{Slot}
-use Rattle.pcb_read.specs.Slots.{AreSame}
+use Rattle.pcb_read.specs.PartSlots.{AreSame}
 use Rattle.pcb_read.proofs.Slotting.{whole, still_next}
 use Rattle.pcb_read.proofs.aside.draft_next.Goals as goal
 

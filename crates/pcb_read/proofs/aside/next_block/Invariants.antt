@@ -1,6 +1,6 @@
 use Rattle.std.proofs.Common.{◌≡◌, ◌++◌, ◌-◌, map, vec_len}
-use Rattle.sexpr_read.specs.Views.{trees_left}
-use Rattle.pcb_read.specs.Slots.{tree_in}
+use Rattle.sexpr_read.specs.TreeViews.{trees_left}
+use Rattle.pcb_read.specs.PartSlots.{tree_in}
 use Rattle.pcb_read.proofs.aside.next_block.Given as goal
 
 -- the block and what is left are what was left before

@@ -1,7 +1,7 @@
 use Rattle.std.proofs.Common.{ap, map, List}
 use Rattle.std.specs.Vec.Iter.{into_iter_items}
 use Rattle.pcb_read.specs.declared.slot.Slot.{Slot}
-use Rattle.pcb_read.specs.Slots.{tree_in, reading_of}
+use Rattle.pcb_read.specs.PartSlots.{tree_in, reading_of}
 use Rattle.pcb_read.proofs.Slotting.{part_refused}
 use Rattle.pcb_read.proofs.aside.read_block.Goals as goal
 

@@ -2,7 +2,7 @@ use Rattle.std.proofs.Common.{◌≡◌, false, length, map, Result}
 use Rattle.std.specs.Vec.Iter.{into_iter_items, into_iter_len}
 use Rattle.board_errors.specs.declared.errors.BoardError.{BoardError}
 use Rattle.pcb_read.specs.BoardOf.{Reading, SaysParts}
-use Rattle.pcb_read.specs.Slots.{tree_in, reading_of}
+use Rattle.pcb_read.specs.PartSlots.{tree_in, reading_of}
 use Rattle.pcb_read.proofs.aside.read_block.Given as goal
 
 -- what is left says after what was read so far, all parts say

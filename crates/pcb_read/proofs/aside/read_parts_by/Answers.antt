@@ -1,7 +1,7 @@
 use Rattle.std.proofs.Common.{◌∙◌, map}
 use Rattle.sexpr_read.specs.Tree.{parts}
-use Rattle.sexpr_read.specs.Views.{tree_of, trees_left}
-use Rattle.pcb_read.specs.Slots.{tree_in, trees_ahead, reading_of}
+use Rattle.sexpr_read.specs.TreeViews.{tree_of, trees_left}
+use Rattle.pcb_read.specs.PartSlots.{tree_in, trees_ahead, reading_of}
 use Rattle.pcb_read.proofs.Slotting.{block_refused, block_read}
 use Rattle.pcb_read.proofs.aside.read_parts_by.Goals as goal
 

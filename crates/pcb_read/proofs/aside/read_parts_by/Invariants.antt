@@ -1,9 +1,9 @@
 use Rattle.std.proofs.Common.{◌≡◌, [], false, length, Result}
 use Rattle.board_errors.specs.declared.errors.BoardError.{BoardError}
 use Rattle.sexpr_read.specs.Tree.{parts}
-use Rattle.sexpr_read.specs.Views.{tree_of}
+use Rattle.sexpr_read.specs.TreeViews.{tree_of}
 use Rattle.pcb_read.specs.BoardOf.{Reading, SaysParts}
-use Rattle.pcb_read.specs.Slots.{trees_ahead, reading_of}
+use Rattle.pcb_read.specs.PartSlots.{trees_ahead, reading_of}
 use Rattle.pcb_read.proofs.aside.read_parts_by.Given as goal
 
 -- what is ahead says after what was read so far, all parts say; an empty block is the last

@@ -1,7 +1,7 @@
 use Rattle.std.proofs.Common.{rules, ◌≡◌, subst, true, Option, IfSome}
 use Rattle.pcb_read.specs.declared.drafts.Draft.{Draft}
 use Rattle.pcb_read.specs.Drafts.{IsDraft}
-use Rattle.pcb_read.specs.Slots.{tree_in}
+use Rattle.pcb_read.specs.PartSlots.{tree_in}
 use Rattle.pcb_read.proofs.Slotting.{slot_says}
 use Rattle.pcb_read.proofs.aside.read_slot.Goals as goal
 

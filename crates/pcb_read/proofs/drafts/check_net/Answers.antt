@@ -1,9 +1,9 @@
 use Rattle.std.proofs.Common.{rules, ◌≡◌, ◌∙◌, sym, ap, subst, ℕ, true, codes, is_some, Option, Ok}
 use Rattle.sexpr_read.specs.Tree.{Tree}
-use Rattle.sexpr_read.specs.Views.{tree_of}
+use Rattle.sexpr_read.specs.TreeViews.{tree_of}
 use Rattle.board_items.specs.Boards.{name_of}
-use Rattle.list_read.specs.Elements.{element}
-use Rattle.part_read.specs.Elements.{given_or}
+use Rattle.list_read.specs.NamedElements.{element}
+use Rattle.part_read.specs.ElementResults.{given_or}
 use Rattle.part_read.specs.NetsOf.{declared_in}
 use Rattle.pcb_read.proofs.Drafting.{net_there, net_same}
 use Rattle.pcb_read.proofs.drafts.check_net.Goals as goal

@@ -1,5 +1,5 @@
 use Rattle.std.proofs.Common.{rules}
-use Rattle.pcb_read.proofs.Rooming.{rise_low, rise_high}
+use Rattle.pcb_read.proofs.Capacities.{rise_low, rise_high}
 use Rattle.pcb_read.proofs.root.read_items.Goals as goal
 
 pub returns-in_ok-items-in_default : goal.returns-in_ok-items-in_default

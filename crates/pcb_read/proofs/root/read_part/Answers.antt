@@ -1,5 +1,5 @@
 use Rattle.std.proofs.Common.{◌∙◌, sym}
-use Rattle.sexpr_read.specs.Views.{tree_of}
+use Rattle.sexpr_read.specs.TreeViews.{tree_of}
 use Rattle.pcb_read.proofs.Parting.{part_says}
 use Rattle.pcb_read.proofs.root.read_part.Goals as goal
 

@@ -2,9 +2,9 @@ use Rattle.std.proofs.Common.{[], List, sym, subst, refl}
 use Rattle.std.proofs.lemmas.List.{append-nil}
 use Rattle.sexpr_read.specs.declared.place.Span.{Span}
 use Rattle.sexpr_read.specs.Tree.{Tree, parts}
-use Rattle.sexpr_read.specs.Views.{tree_of, trees_left}
+use Rattle.sexpr_read.specs.TreeViews.{tree_of, trees_left}
 use Rattle.pcb_read.specs.BoardOf.{Reading}
-use Rattle.pcb_read.specs.Spans.{SaysSpans}
+use Rattle.pcb_read.specs.UnitSpans.{SaysSpans}
 use Rattle.pcb_read.proofs.root.read_parts.Goals as goal
 
 pub returns-clause-spans : goal.returns-clause-spans

@@ -1,10 +1,10 @@
 use Rattle.std.proofs.Common.{◌≡◌, ◌++◌, false, List, length, Result}
 use Rattle.sexpr_read.specs.declared.place.Span.{Span}
 use Rattle.sexpr_read.specs.Tree.{parts}
-use Rattle.sexpr_read.specs.Views.{tree_of, trees_left}
+use Rattle.sexpr_read.specs.TreeViews.{tree_of, trees_left}
 use Rattle.board_errors.specs.declared.errors.BoardError.{BoardError}
 use Rattle.pcb_read.specs.BoardOf.{Reading, SaysParts}
-use Rattle.pcb_read.specs.Spans.{SaysSpans}
+use Rattle.pcb_read.specs.UnitSpans.{SaysSpans}
 use Rattle.pcb_read.proofs.root.read_parts.Given as goal
 
 -- what is left says after what was read so far, all parts say, and so with the spans; there is a span for each unit, and without a list of layers there is no copper layer

@@ -5,5 +5,5 @@ use Rattle.ratsnest.proofs.nearest.all_names.Given as goal
 abbrev pub invariant-loop-node : goal.invariant-loop-node
 invariant-loop-node l = record {
   len : length l.names.items ≡ length l.tree.nodes.items;
-  are : AreNames l.tree.spots.items l.labels l.tree.nodes.items l.names.items;
+  are : AreNames l.tree.indexed_anchors.items l.labels l.tree.nodes.items l.names.items;
 }

@@ -9,7 +9,7 @@ use Rattle.ratsnest.proofs.rounds.take_round.Goals.{then-before-len, else-before
 pub join_all-requires-clause-usable : goal.join_all-requires-clause-usable
 join_all-requires-clause-usable c =
     subst (λ (z : List Link). All (IsUsable c.args.anchors.now) z) (sym c.deref.ensures.value)
-    (best_usable c.args.anchors.now c.requires.rise c.requires.few c.args.labels.now c.args.tree.now.spots.items c.requires.spots c.in_ok-skipped.skipped c.in_ok-best.best.items c.in_ok-best.ensures.best)
+    (best_usable c.args.anchors.now c.requires.rise c.requires.few c.args.labels.now c.args.tree.now.indexed_anchors.items c.requires.indexed_anchors c.in_ok-skipped.skipped c.in_ok-best.best.items c.in_ok-best.ensures.best)
 
 pub returns-clause-done : goal.returns-clause-done
 returns-clause-done c = λ e. elim c.if-before-len.branch [
@@ -20,8 +20,8 @@ returns-clause-done c = λ e. elim c.if-before-len.branch [
   | else-before-len w ↦ elim c.in_ok-join_all.ensures.grown [
     | inl more ↦ absurd (omega (arith, w.if-before-len.false, c.len-before.ensures, c.len.ensures, more))
     | inr same ↦ subst AreOne (sym same.0)
-        (idle_is_one c.args.anchors.now c.requires.rise c.requires.few c.args.labels.now c.args.tree.now.spots.items c.requires.spots c.in_ok-skipped.skipped c.deref.result.now
-        (subst (λ (z : List Link). AreBestTo c.args.tree.now.spots.items c.args.labels.now c.in_ok-skipped.skipped (length c.args.tree.now.spots.items) z) (sym c.deref.ensures.value) c.in_ok-best.ensures.best)
+        (idle_is_one c.args.anchors.now c.requires.rise c.requires.few c.args.labels.now c.args.tree.now.indexed_anchors.items c.requires.indexed_anchors c.in_ok-skipped.skipped c.deref.result.now
+        (subst (λ (z : List Link). AreBestTo c.args.tree.now.indexed_anchors.items c.args.labels.now c.in_ok-skipped.skipped (length c.args.tree.now.indexed_anchors.items) z) (sym c.deref.ensures.value) c.in_ok-best.ensures.best)
         c.requires.occur c.requires.forest.count (ap length c.deref.ensures.value ∙ c.in_ok-best.ensures.len) c.requires.kept.below same.2)
   ]
 ]

@@ -3,5 +3,5 @@ use Rattle.roundtrip_edited.proofs.Zones.{zone_carried}
 use Rattle.roundtrip_edited.proofs.unit_laws.zones.Goals as goal
 
 pub returns : goal.returns
-returns c o board other unit own i j s r ground alike items now become says room =
-    sym (zone_carried o board other unit own i j s r items now (sym ground.copper) ground.names alike become room (sym says))
+returns c o board other unit own i j s r ground translated items now become says capacity =
+    sym (zone_carried o board other unit own i j s r items now (sym ground.copper) ground.names translated become capacity (sym says))

@@ -1,5 +1,5 @@
-use Rattle.roundtrip_lists.proofs.Graphics.{ground_alike, text_carried}
+use Rattle.roundtrip_lists.proofs.Graphics.{layer_role_translated, text_carried}
 use Rattle.roundtrip_lists.proofs.drawing_laws.texts.Goals as goal
 
 pub returns : goal.returns
-returns c = record { grounds = ground_alike; notes = text_carried }
+returns c = record { layer_roles = layer_role_translated; notes = text_carried }

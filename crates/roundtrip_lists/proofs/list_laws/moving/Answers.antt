@@ -1,5 +1,5 @@
-use Rattle.roundtrip_lists.proofs.Moving.{moved_alike, moved_respelled, moved_utf8, alike_same, alike_itself}
+use Rattle.roundtrip_lists.proofs.Moving.{moved_translated, moved_respelled, moved_utf8, translated_same, translated_itself}
 use Rattle.roundtrip_lists.proofs.list_laws.moving.Goals as goal
 
 pub returns : goal.returns
-returns c = record { alike = moved_alike; written = moved_respelled; utf8 = moved_utf8; same = alike_same; itself = alike_itself }
+returns c = record { translated = moved_translated; written = moved_respelled; utf8 = moved_utf8; same = translated_same; itself = translated_itself }

@@ -1,5 +1,5 @@
 use Rattle.cond_lang.specs.Rules.{plain_constraint}
-use Rattle.row_check.specs.Copper.{AsksAtMost}
+use Rattle.row_check.specs.CopperSeparation.{AsksAtMost}
 use Rattle.row_check.proofs.MostAsked.{asks_wider, most_of_none, most_of_more, most_of_all}
 use Rattle.row_check.proofs.copper.raised_by_rule.Goals as goal
 

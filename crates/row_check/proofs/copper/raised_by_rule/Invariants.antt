@@ -1,6 +1,6 @@
 use Rattle.std.proofs.Common.{take}
 use Rattle.cond_lang.specs.Rules.{plain_constraint}
-use Rattle.row_check.specs.Copper.{AsksAtMost}
+use Rattle.row_check.specs.CopperSeparation.{AsksAtMost}
 use Rattle.row_check.proofs.MostAsked.{IsMostOf}
 use Rattle.row_check.proofs.copper.raised_by_rule.Given as goal
 

@@ -1,7 +1,7 @@
 use Rattle.std.proofs.Common.{List, All, map, subst}
 use Rattle.cond_lang.specs.declared.constraint.Constraint.{Constraint}
 use Rattle.cond_lang.specs.Rules.{plain_constraint, plain_rule}
-use Rattle.row_check.specs.Copper.{AsksAtMost, EachAsksAtMost}
+use Rattle.row_check.specs.CopperSeparation.{AsksAtMost, EachAsksAtMost}
 use Rattle.row_check.proofs.MostAsked.{each_wider, most_of_none, most_of_more, most_of_all}
 use Rattle.row_check.proofs.copper.raised_by_rules.Goals as goal
 

@@ -1,6 +1,6 @@
 use Rattle.std.proofs.Common.{take}
 use Rattle.cond_lang.specs.Rules.{plain_rule}
-use Rattle.row_check.specs.Copper.{EachAsksAtMost}
+use Rattle.row_check.specs.CopperSeparation.{EachAsksAtMost}
 use Rattle.row_check.proofs.MostAsked.{IsMostOf}
 use Rattle.row_check.proofs.copper.raised_by_rules.Given as goal
 

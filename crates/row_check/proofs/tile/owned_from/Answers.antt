@@ -10,14 +10,14 @@ walk-preserved-then-is_far c =
     let a = c.args in
     let i = c.walk.invariant in
     block_less 32 a.at.now.index.now a.at.now.tile a.first.now a.at.now.boxes.long.now a.others.now c.walk.left.now _ (behind_block 32 _ c.walk.left.now refl)
-    (boxes_end a.at.now.boxes a.others.now i.front c.walk.left.now i.split c.requires.blocks).long (as_widened a.first.now a.at.now.index.now _ 32 _ _ c.widened-wide.ensures (c.is_far.ensures c.if-is_far.true)) i
+    (boxes_end a.at.now.boxes a.others.now i.prefix c.walk.left.now i.split c.requires.blocks).long (as_widened a.first.now a.at.now.index.now _ 32 _ _ c.widened-wide.ensures (c.is_far.ensures c.if-is_far.true)) i
 
 pub walk-preserved-then-is_far-2 : goal.walk-preserved-then-is_far-2
 walk-preserved-then-is_far-2 c =
     let a = c.args in
     let i = c.walk.invariant in
     block_less 4 a.at.now.index.now a.at.now.tile a.first.now a.at.now.boxes.short.now a.others.now c.walk.left.now _ (behind_block 4 _ c.walk.left.now refl)
-    (boxes_end a.at.now.boxes a.others.now i.front c.walk.left.now i.split c.requires.blocks).short (as_widened a.first.now a.at.now.index.now _ 4 _ _ c.widened-wide.ensures (c.is_far-then-begins-2.ensures c.if-is_far-2.true)) i
+    (boxes_end a.at.now.boxes a.others.now i.prefix c.walk.left.now i.split c.requires.blocks).short (as_widened a.first.now a.at.now.index.now _ 4 _ _ c.widened-wide.ensures (c.is_far-then-begins-2.ensures c.if-is_far-2.true)) i
 
 pub is_owned-requires-clause-second : goal.is_owned-requires-clause-second
 is_owned-requires-clause-second c =

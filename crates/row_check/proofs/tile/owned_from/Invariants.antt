@@ -1,5 +1,5 @@
 use Rattle.std.proofs.Common.{length}
-use Rattle.row_check.specs.Walks.{IsEndOf}
+use Rattle.row_check.specs.EntryWalks.{IsEndOf}
 use Rattle.row_check.proofs.tile.owned_from.Given as goal
 
 abbrev pub invariant-walk : goal.invariant-walk

@@ -1,11 +1,11 @@
 use Rattle.std.proofs.Common.{◌∙◌, sym, subst, [], ◌∷◌}
-use Rattle.pair_check.specs.Views.{checked_by}
+use Rattle.pair_check.specs.CheckViews.{checked_by}
 use Rattle.row_check.specs.Blocks.{AreBlocks}
-use Rattle.row_check.specs.Tiles.{AreRowsOfTile, most_steps}
+use Rattle.row_check.specs.RowsOfTile.{AreRowsOfTile, most_steps}
 use Rattle.row_check.proofs.BlockLists.{boxes_end}
 use Rattle.row_check.proofs.TestedPairs.{touches}
 use Rattle.row_check.proofs.TileRows.{none_answered}
-use Rattle.row_check.proofs.TileWalk.{none_tested, front_entries, first_touched, its_entries, tested_more, steps_within, most_tested, all_counted, all_tested}
+use Rattle.row_check.proofs.TileWalk.{none_tested, prefix_entries, first_touched, its_entries, tested_more, steps_within, most_tested, all_counted, all_tested}
 use Rattle.row_check.proofs.tile.test_tile.Goals as goal
 
 pub entries-init : goal.entries-init
@@ -25,7 +25,7 @@ returns-then-not-may_answer-clause-rows g c =
     (none_answered (checked_by c.args.view.now) c.args.index.now c.near-near.ensures.sound c.requires.index c.args.tile c.args.changed.now (c.may_answer.ensures c.if-not-may_answer.true))
 
 pub partners-requires-clause-rising : goal.partners-requires-clause-rising
-partners-requires-clause-rising g c = (front_entries (checked_by c.args.view.now) c.args.index.now c.args.tile c.args.changed.now _ _ _ _ _ _ c.entries.invariant.tested c.in-Some.first.now c.in-Some.others.now c.in-Some.ensures.cases.0).rising
+partners-requires-clause-rising g c = (prefix_entries (checked_by c.args.view.now) c.args.index.now c.args.tile c.args.changed.now _ _ _ _ _ _ c.entries.invariant.tested c.in-Some.first.now c.in-Some.others.now c.in-Some.ensures.cases.0).rising
 
 pub partners-requires-clause-blocks : goal.partners-requires-clause-blocks
 partners-requires-clause-blocks g c = boxes_end _ _ (c.in-Some.first.now ∷ []) c.in-Some.others.now c.in-Some.ensures.cases.0 c.entries.invariant.boxes

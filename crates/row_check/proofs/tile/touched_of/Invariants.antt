@@ -1,7 +1,7 @@
 use Rattle.std.proofs.Common.{◌≡◌, take}
 use Rattle.std.specs.List.{filter}
 use Rattle.box_index.specs.declared.entry.Entry.{Entry}
-use Rattle.row_check.specs.Tiles.{is_changed}
+use Rattle.row_check.specs.RowsOfTile.{is_changed}
 use Rattle.row_check.proofs.tile.touched_of.Given as goal
 
 abbrev pub invariant-loop-entry : goal.invariant-loop-entry

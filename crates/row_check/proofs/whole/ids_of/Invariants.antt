@@ -1,5 +1,5 @@
 use Rattle.std.proofs.Common.{◌≡◌, ◌++◌, map}
-use Rattle.board_items.specs.Walks.{items_left}
+use Rattle.board_items.specs.BoardIterators.{items_left}
 use Rattle.row_check.specs.Whole.{ids_of}
 use Rattle.row_check.proofs.whole.ids_of.Given as goal
 

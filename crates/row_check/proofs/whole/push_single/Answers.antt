@@ -1,6 +1,6 @@
 use Rattle.std.proofs.Common.{◌∙◌, sym, ap}
 use Rattle.std.specs.Option.{option_copied}
-use Rattle.pair_check.specs.Views.{checked_by, deciders_of}
+use Rattle.pair_check.specs.CheckViews.{checked_by, deciders_of}
 use Rattle.row_check.proofs.Singles.{nothing_more, no_single, no_broken}
 use Rattle.row_check.proofs.whole.push_single.Goals as goal
 

@@ -1,4 +1,4 @@
-use Rattle.pair_check.specs.Views.{checked_by}
+use Rattle.pair_check.specs.CheckViews.{checked_by}
 use Rattle.row_check.proofs.Singles.{nothing_more, no_singles, one_single_more, all_singles}
 use Rattle.row_check.proofs.whole.push_singles.Goals as goal
 

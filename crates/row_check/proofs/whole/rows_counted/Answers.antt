@@ -1,4 +1,4 @@
-use Rattle.pair_check.specs.Views.{checked_by}
+use Rattle.pair_check.specs.CheckViews.{checked_by}
 use Rattle.row_check.specs.Whole.{IsOfChanged}
 use Rattle.row_check.proofs.Sorting.{once_permutation, rows_from_once}
 use Rattle.row_check.proofs.WholeRows.{changed_once}

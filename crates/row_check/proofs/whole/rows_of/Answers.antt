@@ -1,6 +1,6 @@
 use Rattle.std.proofs.Common.{◌∙◌}
 use Rattle.std.proofs.lemmas.Result.{IfOk-weaker}
-use Rattle.pair_check.specs.Views.{checked_by}
+use Rattle.pair_check.specs.CheckViews.{checked_by}
 use Rattle.row_check.proofs.WholeRows.{dirty_rise, all_rows}
 use Rattle.row_check.proofs.whole.rows_of.Goals as goal
 

@@ -1,4 +1,4 @@
-use Rattle.pair_check.specs.Views.{checked_by}
+use Rattle.pair_check.specs.CheckViews.{checked_by}
 use Rattle.row_check.proofs.WholeRows.{one_tile_more}
 use Rattle.row_check.proofs.whole.rows_of_tiles.Goals as goal
 

@@ -1,5 +1,5 @@
 use Rattle.std.proofs.Common.{take}
-use Rattle.pair_check.specs.Views.{checked_by}
+use Rattle.pair_check.specs.CheckViews.{checked_by}
 use Rattle.row_check.specs.Whole.{AreOnceWhere, IsOfTiles}
 use Rattle.row_check.proofs.whole.rows_of_tiles.Given as goal
 

@@ -1,7 +1,7 @@
 -- The first among those that are left is the first of all.
 use Rattle.std.proofs.Common.{◌≡◌, drop, map, ◌==◌}
 use Rattle.std.specs.Prelude.{find}
-use Rattle.cond_lang.specs.Kinds.{kind_number}
+use Rattle.cond_lang.specs.CheckKinds.{kind_number}
 use Rattle.cond_lang.specs.Rules.{plain_constraint}
 use Rattle.rule_pick.proofs.deciding.asked_by.Given as goal
 

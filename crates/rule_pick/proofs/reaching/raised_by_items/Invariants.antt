@@ -1,4 +1,4 @@
-use Rattle.board_items.specs.Walks.{items_left}
+use Rattle.board_items.specs.BoardIterators.{items_left}
 use Rattle.rule_pick.specs.Reach.{local_clearances}
 use Rattle.rule_pick.specs.Raised.{IsRaisedSoFar}
 use Rattle.rule_pick.proofs.reaching.raised_by_items.Given as goal

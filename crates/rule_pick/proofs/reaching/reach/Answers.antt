@@ -1,6 +1,6 @@
 use Rattle.std.proofs.Common.{ℤ, ◌++◌, map, sym, subst}
 use Rattle.std.specs.List.{flat_map}
-use Rattle.net_class.specs.Classes.{PlainMins}
+use Rattle.net_class.specs.NetClasses.{PlainMins}
 use Rattle.cond_lang.specs.Rules.{plain_rule}
 use Rattle.rule_pick.specs.Reach.{distances_of, least_distances, local_clearances, clearances_of, distances_asked, IsGreatestOf}
 use Rattle.rule_pick.specs.Raised.{IsRaised}

@@ -1,8 +1,8 @@
 use Rattle.std.proofs.Common.{◌≡◌}
-use Rattle.sexpr_read.specs.Views.{tree_of, trees_left}
+use Rattle.sexpr_read.specs.TreeViews.{tree_of, trees_left}
 use Rattle.cond_lang.specs.Rules.{no_bans}
-use Rattle.rule_text.specs.Forms.{clauses}
-use Rattle.rule_text.specs.Limits.{with_bans}
+use Rattle.rule_text.specs.RuleForms.{clauses}
+use Rattle.rule_text.specs.RuleLimits.{with_bans}
 use Rattle.rule_text.proofs.bans.bans_in.Given as goal
 
 -- the bans so far, and what is left, give what all gives

@@ -1,4 +1,4 @@
-use Rattle.sexpr_read.specs.Views.{tree_of}
+use Rattle.sexpr_read.specs.TreeViews.{tree_of}
 use Rattle.rule_text.proofs.Shortness.{claim_short}
 use Rattle.rule_text.proofs.constraints.claimed.Goals as goal
 

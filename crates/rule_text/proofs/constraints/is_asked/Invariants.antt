@@ -1,7 +1,7 @@
 use Rattle.std.proofs.Common.{◌≡◌, ◌||◌, not}
 use Rattle.std.specs.List.{list_any}
-use Rattle.sexpr_read.specs.Views.{tree_of, trees_left}
-use Rattle.rule_text.specs.Forms.{clauses}
+use Rattle.sexpr_read.specs.TreeViews.{tree_of, trees_left}
+use Rattle.rule_text.specs.RuleForms.{clauses}
 use Rattle.rule_text.specs.RulesOf.{is_constraint, is_own, is_asked}
 use Rattle.rule_text.proofs.constraints.is_asked.Given as goal
 

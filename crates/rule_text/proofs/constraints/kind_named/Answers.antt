@@ -1,11 +1,11 @@
 use Rattle.std.proofs.Common.{◌≡◌, ◌∙◌, ◌↔◌, ◌<◌, ◌+◌, sym, ap, subst, refl, arith, ℕ, zero, suc, Bool, IsTrue, cond, List, [], ◌∷◌, length, drop, find, get_or, Some}
 use Rattle.sexpr_read.specs.Tree.{Tree, value}
-use Rattle.sexpr_read.specs.Views.{tree_of}
+use Rattle.sexpr_read.specs.TreeViews.{tree_of}
 use Rattle.cond_lang.specs.declared.kind.Kind.TheVariants.{Short}
-use Rattle.cond_lang.specs.Kinds.{kind_name}
-use Rattle.list_read.specs.Heads.{is_text}
+use Rattle.cond_lang.specs.CheckKinds.{kind_name}
+use Rattle.list_read.specs.ListHeads.{is_text}
 use Rattle.list_read.proofs.Words.{text_is}
-use Rattle.rule_text.specs.Limits.{constrained_kinds, is_name_of}
+use Rattle.rule_text.specs.RuleLimits.{constrained_kinds, is_name_of}
 use Rattle.rule_text.proofs.constraints.kind_named.Goals as goal
 
 find_step : {A : Type 0} (p : A → Bool) (xs : List A) (k : ℕ) (d : A) → k < length xs → find p (drop k xs) ≡ cond (p (get_or xs k d)) (Some (get_or xs k d)) (find p (drop (k + 1) xs))

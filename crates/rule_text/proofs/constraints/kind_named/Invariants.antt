@@ -1,6 +1,6 @@
 use Rattle.std.proofs.Common.{◌≡◌, find, drop}
-use Rattle.sexpr_read.specs.Views.{tree_of}
-use Rattle.rule_text.specs.Limits.{constrained_kinds, is_name_of, kind_named}
+use Rattle.sexpr_read.specs.TreeViews.{tree_of}
+use Rattle.rule_text.specs.RuleLimits.{constrained_kinds, is_name_of, kind_named}
 use Rattle.rule_text.proofs.constraints.kind_named.Given as goal
 
 -- the first among those that are left is the first of all

@@ -1,10 +1,10 @@
 use Rattle.std.proofs.Common.{◌≡◌, ◌∙◌, sym, arith}
-use Rattle.sexpr_read.specs.Views.{tree_of}
-use Rattle.list_read.specs.Heads.{is_text}
+use Rattle.sexpr_read.specs.TreeViews.{tree_of}
+use Rattle.list_read.specs.ListHeads.{is_text}
 use Rattle.list_read.proofs.Words.{name_found, name_passed}
 use Rattle.copper_layers.specs.Layers.{layer_names}
 use Rattle.copper_layers.proofs.LayerNames.{none_left}
-use Rattle.rule_text.specs.LayersOf.{layer_number}
+use Rattle.rule_text.specs.RuleLayers.{layer_number}
 use Rattle.rule_text.proofs.layers.seek_layer.Goals as goal
 
 pub returns-then-is : goal.returns-then-is

@@ -1,8 +1,8 @@
 use Rattle.std.proofs.Common.{◌≡◌}
-use Rattle.sexpr_read.specs.Views.{tree_of, trees_left}
-use Rattle.rule_text.specs.Forms.{clauses}
-use Rattle.rule_text.specs.Limits.{with_limits, unlimited}
-use Rattle.rule_text.specs.Views.{plain_limits}
+use Rattle.sexpr_read.specs.TreeViews.{tree_of, trees_left}
+use Rattle.rule_text.specs.RuleForms.{clauses}
+use Rattle.rule_text.specs.RuleLimits.{with_limits, unlimited}
+use Rattle.rule_text.specs.RuleValues.{plain_limits}
 use Rattle.rule_text.proofs.lengths.limits_in.Given as goal
 
 -- the limits so far, and what is left, give what all gives

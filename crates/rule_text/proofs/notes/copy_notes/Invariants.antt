@@ -1,5 +1,5 @@
 use Rattle.std.proofs.Common.{◌≡◌, map, drop, ◌++◌}
-use Rattle.rule_text.specs.Views.{plain_note}
+use Rattle.rule_text.specs.RuleValues.{plain_note}
 use Rattle.rule_text.proofs.notes.copy_notes.Given as goal
 
 abbrev pub invariant-loop-note : goal.invariant-loop-note

@@ -1,10 +1,10 @@
 use Rattle.std.proofs.Common.{◌≡◌}
-use Rattle.sexpr_read.specs.Views.{tree_of, trees_left}
-use Rattle.rule_text.specs.Forms.{clauses}
+use Rattle.sexpr_read.specs.TreeViews.{tree_of, trees_left}
+use Rattle.rule_text.specs.RuleForms.{clauses}
 use Rattle.rule_text.specs.RulesOf.{is_asked}
-use Rattle.rule_text.specs.Walk.{with_clauses}
-use Rattle.rule_text.specs.Short.{AllShort}
-use Rattle.rule_text.specs.Views.{plain_draft}
+use Rattle.rule_text.specs.RuleWalk.{with_clauses}
+use Rattle.rule_text.specs.ShortRuleTrees.{AllShort}
+use Rattle.rule_text.specs.RuleValues.{plain_draft}
 use Rattle.rule_text.proofs.reading.with_clauses.Given as goal
 
 -- the rule so far, and what is left, give what all gives

@@ -1,4 +1,4 @@
-use Rattle.sexpr_read.specs.Views.{tree_of}
+use Rattle.sexpr_read.specs.TreeViews.{tree_of}
 use Rattle.rule_text.proofs.Shortness.{atom_short}
 use Rattle.rule_text.proofs.reading.with_cond.Goals as goal
 

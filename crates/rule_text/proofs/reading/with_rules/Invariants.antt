@@ -1,9 +1,9 @@
 use Rattle.std.proofs.Common.{◌≡◌, ◌≤◌, ◌+◌, length}
-use Rattle.sexpr_read.specs.Views.{trees_left}
+use Rattle.sexpr_read.specs.TreeViews.{trees_left}
 use Rattle.rule_text.specs.RulesOf.{no_rules}
-use Rattle.rule_text.specs.Walk.{with_rules}
-use Rattle.rule_text.specs.Short.{AllShort}
-use Rattle.rule_text.specs.Views.{plain_lists}
+use Rattle.rule_text.specs.RuleWalk.{with_rules}
+use Rattle.rule_text.specs.ShortRuleTrees.{AllShort}
+use Rattle.rule_text.specs.RuleValues.{plain_lists}
 use Rattle.rule_text.proofs.reading.with_rules.Given as goal
 
 -- the rules so far, and what is left, give what all gives

@@ -1,7 +1,7 @@
 use Rattle.std.proofs.Common.{refl, ◌++◌, map, append_assoc}
 use Rattle.std.proofs.lemmas.Result.{err_from_is_err_and}
 use Rattle.cond_lang.specs.Rules.{plain_rule}
-use Rattle.rule_text.specs.Views.{plain_rules}
+use Rattle.rule_text.specs.RuleValues.{plain_rules}
 use Rattle.drc_rows.specs.Report.{rows_text, notes_text}
 use Rattle.drc_rows.specs.ReportOf.{first_line}
 use Rattle.drc_rows.proofs.Lines.{Puts-then, Puts-cut}

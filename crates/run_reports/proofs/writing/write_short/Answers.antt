@@ -1,8 +1,8 @@
 use Rattle.std.proofs.Common.{◌≡◌, ap, ◌++◌, ◌∙◌, sym, [], length, filter, codes, append_assoc, ℕ, List}
 use Rattle.std.proofs.lemmas.Result.{err_from_is_err_and}
-use Rattle.rule_text.specs.Views.{plain_rules}
+use Rattle.rule_text.specs.RuleValues.{plain_rules}
 use Rattle.net_groups.specs.NetParts.{is_open}
-use Rattle.drc_rows.specs.Notes.{note_count}
+use Rattle.drc_rows.specs.NoteLines.{note_count}
 use Rattle.drc_rows.specs.Report.{number_line}
 use Rattle.drc_rows.specs.ReportOf.{tiles_line, first_line, short_report}
 use Rattle.drc_rows.proofs.Lines.{Puts-then, Puts-text, Puts-ends, Puts-broke, Puts-broke_off}

@@ -1,6 +1,6 @@
 use Rattle.std.proofs.Common.{refl, ap, ◌++◌, append_assoc}
 use Rattle.std.proofs.lemmas.Result.{err_from_is_err_and}
-use Rattle.rule_text.specs.Views.{plain_rules}
+use Rattle.rule_text.specs.RuleValues.{plain_rules}
 use Rattle.drc_rows.specs.Report.{rows_text, notes_text}
 use Rattle.drc_rows.specs.ReportOf.{nets_text, tiles_line, first_line, whole_report}
 use Rattle.drc_rows.proofs.Lines.{Puts-then, Puts-text, Puts-ends, Puts-broke, Puts-broke_off}

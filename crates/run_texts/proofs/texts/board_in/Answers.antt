@@ -1,6 +1,6 @@
 use Rattle.std.proofs.Common.{refl}
 use Rattle.board_errors.specs.declared.errors.BoardError.TheVariants.{OutOfMemory}
-use Rattle.board_errors.specs.Reasons.{board_reason}
+use Rattle.board_errors.specs.BoardReasons.{board_reason}
 use Rattle.pcb_read.specs.BoardText.{BoardSays}
 use Rattle.run_texts.specs.declared.texts.Which.TheVariants.{Board}
 use Rattle.run_texts.proofs.Refusals.{refuses_so, stops_so}

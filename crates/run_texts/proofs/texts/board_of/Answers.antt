@@ -1,7 +1,7 @@
 use Rattle.std.proofs.Common.{◌≤◌, ℕ, List, length, sym, subst}
-use Rattle.run_words.specs.Views.{source_in}
+use Rattle.run_words.specs.CallValues.{source_in}
 use Rattle.run_texts.specs.declared.texts.Which.TheVariants.{Board}
-use Rattle.run_texts.specs.Texts.{AreBytesOf}
+use Rattle.run_texts.specs.NamedTexts.{AreBytesOf}
 use Rattle.run_texts.proofs.Accepting.{stops_if_refused}
 use Rattle.run_texts.proofs.texts.board_of.Goals as goal
 

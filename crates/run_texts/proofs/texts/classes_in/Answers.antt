@@ -1,7 +1,7 @@
 use Rattle.std.proofs.Common.{refl}
 use Rattle.net_class.specs.declared.error.ProjectError.TheVariants.{OutOfMemory}
 use Rattle.net_class.specs.ProjectText.{ProjectSays}
-use Rattle.net_class.specs.Reasons.{class_reason}
+use Rattle.net_class.specs.ProjectReasons.{class_reason}
 use Rattle.run_texts.specs.declared.texts.Which.TheVariants.{Project}
 use Rattle.run_texts.proofs.Refusals.{refuses_so, stops_so}
 use Rattle.run_texts.proofs.texts.classes_in.Goals as goal

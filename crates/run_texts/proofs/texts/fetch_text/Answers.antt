@@ -1,6 +1,6 @@
 use Rattle.std.proofs.Common.{ap, subst, Err}
 use Rattle.plain_types.specs.Reasons.{PlainReason}
-use Rattle.run_texts.specs.Refusing.{IsStopOf}
+use Rattle.run_texts.specs.RunFindings.{IsStopOf}
 use Rattle.run_texts.proofs.Accepting.{longer_says}
 use Rattle.run_texts.proofs.Refusals.{long_stops}
 use Rattle.run_texts.proofs.texts.fetch_text.Goals as goal

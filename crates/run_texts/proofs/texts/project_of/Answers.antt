@@ -1,7 +1,7 @@
 use Rattle.std.proofs.Common.{◌≤◌, ℕ, List, length, sym, subst}
 use Rattle.drc_io.specs.Files.{IsWholeFile}
 use Rattle.run_texts.specs.declared.texts.Which.TheVariants.{Project}
-use Rattle.run_texts.specs.Texts.{named}
+use Rattle.run_texts.specs.NamedTexts.{named}
 use Rattle.run_texts.proofs.Accepting.{stops_if_refused}
 use Rattle.run_texts.proofs.texts.project_of.Goals as goal
 

@@ -2,9 +2,9 @@ use Rattle.std.proofs.Common.{refl, subst, ◌≤◌, ℕ}
 use Rattle.std.proofs.lemmas.List.{length-map}
 use Rattle.cond_lang.specs.Rules.{plain_rule}
 use Rattle.rule_text.specs.declared.error.RuleError.TheVariants.{OutOfMemory}
-use Rattle.rule_text.specs.Reasons.{rules_reason}
+use Rattle.rule_text.specs.RuleReasons.{rules_reason}
 use Rattle.rule_text.specs.RuleText.{RulesSays}
-use Rattle.rule_text.specs.Views.{plain_rules}
+use Rattle.rule_text.specs.RuleValues.{plain_rules}
 use Rattle.rule_text.proofs.FewRules.{few_in_file}
 use Rattle.run_texts.specs.declared.texts.Which.TheVariants.{Rules}
 use Rattle.run_texts.proofs.Refusals.{refuses_so, stops_so}

@@ -2,7 +2,7 @@ use Rattle.std.proofs.Common.{◌≤◌, ℕ, map, refl, subst}
 use Rattle.std.proofs.lemmas.List.{length-map}
 use Rattle.edit_script.specs.declared.error.ScriptError.TheVariants.{OutOfMemory}
 use Rattle.edit_script.specs.Commands.{plain_command}
-use Rattle.edit_script.specs.Reasons.{script_reason}
+use Rattle.edit_script.specs.ScriptReasons.{script_reason}
 use Rattle.edit_script.specs.ScriptText.{ScriptSays}
 use Rattle.run_texts.specs.declared.texts.Which.TheVariants.{Script}
 use Rattle.run_texts.proofs.FewCommands.{few_commands}

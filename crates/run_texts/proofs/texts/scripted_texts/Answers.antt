@@ -1,9 +1,9 @@
 use Rattle.std.proofs.Common.{[], ◌∷◌, subst}
 use Rattle.drc_io.specs.Files.{IsWholeFile}
 use Rattle.run_words.specs.Calls.{Reading, check}
-use Rattle.run_texts.specs.Texts.{named, a_board}
-use Rattle.run_texts.specs.Views.{opened_in}
-use Rattle.run_texts.specs.Refusing.{StopsText, StopsTexts, AreOpened, only_board}
+use Rattle.run_texts.specs.NamedTexts.{named, a_board}
+use Rattle.run_texts.specs.OpenedValues.{opened_in}
+use Rattle.run_texts.specs.RunFindings.{StopsText, StopsTexts, AreOpened, only_board}
 use Rattle.run_texts.proofs.Accepting.{first_stops, second_stops}
 use Rattle.run_texts.proofs.texts.scripted_texts.Goals as goal
 

@@ -1,6 +1,6 @@
 use Rattle.std.proofs.Common.{refl}
 use Rattle.edit_script.specs.declared.error.ScriptError.TheVariants.{OutOfMemory}
-use Rattle.edit_script.specs.Reasons.{script_reason}
+use Rattle.edit_script.specs.ScriptReasons.{script_reason}
 use Rattle.edit_script.specs.ScriptText.{SaysSteps}
 use Rattle.run_texts.specs.declared.texts.Which.TheVariants.{Steps}
 use Rattle.run_texts.proofs.Refusals.{refuses_so, stops_so}

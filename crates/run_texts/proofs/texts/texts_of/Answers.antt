@@ -1,11 +1,11 @@
 use Rattle.std.proofs.Common.{◌∙◌, ◌≤◌, ℕ, List, subst, arith}
-use Rattle.net_class.specs.Classes.{plain_classes}
+use Rattle.net_class.specs.NetClasses.{plain_classes}
 use Rattle.rule_text.specs.RulesOf.{no_rules}
-use Rattle.rule_text.specs.Views.{plain_rules}
-use Rattle.run_words.specs.Views.{reading_in}
+use Rattle.rule_text.specs.RuleValues.{plain_rules}
+use Rattle.run_words.specs.CallValues.{reading_in}
 use Rattle.run_texts.specs.declared.texts.Which.TheVariants.{Project, Rules}
-use Rattle.run_texts.specs.Texts.{a_project, a_rules}
-use Rattle.run_texts.specs.Refusing.{Gives, StopsOption}
+use Rattle.run_texts.specs.NamedTexts.{a_project, a_rules}
+use Rattle.run_texts.specs.RunFindings.{Gives, StopsOption}
 use Rattle.run_texts.proofs.Accepting.{board_stops, project_stops, rules_stop}
 use Rattle.run_texts.proofs.texts.texts_of.Goals as goal
 

@@ -1,7 +1,7 @@
 use Rattle.std.proofs.Common.{subst, ap, length, arith}
 use Rattle.plain_types.specs.Reasons.{PlainReason}
 use Rattle.run_texts.specs.declared.texts.Which.TheVariants.{Trials}
-use Rattle.run_texts.specs.Refusing.{IsStopOf}
+use Rattle.run_texts.specs.RunFindings.{IsStopOf}
 use Rattle.run_texts.proofs.TooMany.{by_reader, by_number, few_enough}
 use Rattle.run_texts.proofs.texts.trials_in.Goals as goal
 

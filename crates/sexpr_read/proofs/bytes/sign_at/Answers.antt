@@ -1,6 +1,6 @@
 use Rattle.std.proofs.Common.{◌∙◌, ap}
 use Rattle.std.proofs.lemmas.List.{get_or_default}
-use Rattle.sexpr_read.specs.Bytes.{class_of, sign_of}
+use Rattle.sexpr_read.specs.ByteClasses.{class_of, sign_of}
 use Rattle.sexpr_read.proofs.bytes.sign_at.Goals as goal
 
 pub returns : goal.returns

@@ -1,11 +1,11 @@
 use Rattle.std.proofs.Common.{length, ◌-◌, ◌≡◌, ◌≤◌}
 use Rattle.sexpr_read.specs.Comments.{comment, line_at, shown}
-use Rattle.sexpr_read.specs.Spelling.{IsGap}
+use Rattle.sexpr_read.specs.Spelling.{IsSpaceBetween}
 use Rattle.sexpr_read.proofs.comments.comment_end.Given as goal
 
 abbrev pub invariant-loop-end : goal.invariant-loop-end
 invariant-loop-end l = record {
-  gap : IsGap (shown l.text) l.at l.end;
+  gap : IsSpaceBetween (shown l.text) l.at l.end;
   within : l.end ≤ length l.text;
   line : line_at l.text l.end ≡ comment;
 }

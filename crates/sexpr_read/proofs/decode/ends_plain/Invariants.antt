@@ -1,5 +1,5 @@
 use Rattle.std.proofs.Common.{length, ◌≡◌}
-use Rattle.sexpr_read.specs.Endings.{ends_in}
+use Rattle.sexpr_read.specs.TextEndings.{ends_in}
 use Rattle.sexpr_read.proofs.decode.ends_plain.Given as goal
 
 -- the text ends so where what is left of it does

@@ -1,6 +1,6 @@
 use Rattle.std.proofs.Common.{length, ◌≡◌}
 use Rattle.sexpr_read.specs.Tree.{unescaped}
-use Rattle.sexpr_read.specs.Endings.{ends_in}
+use Rattle.sexpr_read.specs.TextEndings.{ends_in}
 use Rattle.sexpr_read.proofs.decode.ends_unescaped.Given as goal
 
 -- the whole ends so where what is left of it does

@@ -1,5 +1,5 @@
 use Rattle.std.proofs.Common.{◌<◌, true, sym, ◌∙◌, length, arith}
-use Rattle.sexpr_read.specs.Bytes.{sign_of}
+use Rattle.sexpr_read.specs.ByteClasses.{sign_of}
 use Rattle.sexpr_read.proofs.Machine.{over_gap}
 use Rattle.sexpr_read.proofs.Faults.{still_not_blank}
 use Rattle.sexpr_read.proofs.HeadFaults.{close_outside, extra_outside}

@@ -1,8 +1,8 @@
 use Rattle.std.proofs.Common.{◌<◌, ℕ, true, refl, sym, ◌∙◌, Some, length, arith}
 use Rattle.sexpr_read.specs.declared.place.TextError.TheVariants.{EmptyText}
-use Rattle.sexpr_read.specs.Bytes.{sign_of}
-use Rattle.sexpr_read.specs.Spelling.{IsGap}
-use Rattle.sexpr_read.specs.Refusals.{outside}
+use Rattle.sexpr_read.specs.ByteClasses.{sign_of}
+use Rattle.sexpr_read.specs.Spelling.{IsSpaceBetween}
+use Rattle.sexpr_read.specs.TreeRefusals.{outside}
 use Rattle.sexpr_read.proofs.Machine.{over_gap}
 use Rattle.sexpr_read.proofs.Faults.{stands_first, blank_gap, whole_by_end}
 use Rattle.sexpr_read.proofs.HeadFaults.{close_outside, extra_outside}
@@ -12,7 +12,7 @@ pub returns-then-at-text-clause-err : goal.returns-then-at-text-clause-err
 returns-then-at-text-clause-err c =
     let sign = sign_of c.args.text.now in
     let n : ℕ = length c.args.text.now in
-    let gap : IsGap sign 0 n = rw c.if-at-text.true at c.gap_end-at.ensures.gap in
+    let gap : IsSpaceBetween sign 0 n = rw c.if-at-text.true at c.gap_end-at.ensures.gap in
     whole_by_end true sign n (outside 0) (Some EmptyText) (over_gap true sign 0 n 0 gap (stands_first true sign)) (rw (blank_gap sign n gap) refl)
 
 pub returns-in-Close-clause-err : goal.returns-in-Close-clause-err

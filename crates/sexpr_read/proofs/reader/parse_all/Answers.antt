@@ -1,5 +1,5 @@
 use Rattle.std.proofs.Common.{inr}
-use Rattle.sexpr_read.specs.Views.{root_of}
+use Rattle.sexpr_read.specs.TreeViews.{root_of}
 use Rattle.sexpr_read.proofs.Accepted.{only_forms, no_forms, exact_forms, all_of_bytes, bytes_spell_no_forms}
 use Rattle.sexpr_read.proofs.FormFaults.{refused_forms}
 use Rattle.sexpr_read.proofs.reader.parse_all.Goals as goal

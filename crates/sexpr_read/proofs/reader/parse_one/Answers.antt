@@ -1,5 +1,5 @@
 use Rattle.std.proofs.Common.{inr}
-use Rattle.sexpr_read.specs.Views.{root_of}
+use Rattle.sexpr_read.specs.TreeViews.{root_of}
 use Rattle.sexpr_read.proofs.Accepted.{only_tree, no_tree, exact_answer, refusal_of_bytes, bytes_spell_nothing}
 use Rattle.sexpr_read.proofs.reader.parse_one.Goals as goal
 

@@ -2,9 +2,9 @@ use Rattle.std.proofs.Common.{◌≡◌, inr, ◌<◌, ℕ, false, ◌∙◌, ap
 use Rattle.std.proofs.lemmas.Str.{IsCharBoundary-start}
 use Rattle.sexpr_read.specs.declared.place.Span.{Span}
 use Rattle.sexpr_read.specs.Comments.{shown}
-use Rattle.sexpr_read.specs.Cells.{cells_of, forest_of}
+use Rattle.sexpr_read.specs.ForestCells.{cells_of, forest_of}
 use Rattle.sexpr_read.specs.Spelling.{SpellsAll, SpellsForest}
-use Rattle.sexpr_read.specs.Views.{root_of}
+use Rattle.sexpr_read.specs.TreeViews.{root_of}
 use Rattle.sexpr_read.proofs.Lines.{line_first, sign_shown}
 use Rattle.sexpr_read.proofs.Faults.{stands_first}
 use Rattle.sexpr_read.proofs.HeadFaults.{close_outside}

@@ -1,11 +1,11 @@
 use Rattle.std.proofs.Common.{◌≡◌, inl, inr, suc, ◌+◌, ◌<◌, length, vec_len, refl, sym, ◌∙◌, ap, false, true, arith}
 use Rattle.sexpr_read.specs.declared.bytes.ByteClass.TheVariants.{Space, Open, Close, Quote}
 use Rattle.sexpr_read.specs.declared.place.TextError.TheVariants.{TooDeep}
-use Rattle.sexpr_read.specs.Bytes.{sign_of}
+use Rattle.sexpr_read.specs.ByteClasses.{sign_of}
 use Rattle.sexpr_read.specs.Comments.{signs}
 use Rattle.sexpr_read.specs.Spelling.{IsContent, IsString}
-use Rattle.sexpr_read.specs.Refusals.{outside, in_string}
-use Rattle.sexpr_read.specs.Runs.{Stands, outer_levels, IsUnclosed}
+use Rattle.sexpr_read.specs.TreeRefusals.{outside, in_string}
+use Rattle.sexpr_read.specs.ReaderProgress.{Stands, outer_levels, IsUnclosed}
 use Rattle.sexpr_read.proofs.Machine.{over_quote}
 use Rattle.sexpr_read.proofs.Lines.{settled_sign, after_open, after_close, begun_settled, word_lifted, word_line, string_lifted, string_line, unclosed_lifted}
 use Rattle.sexpr_read.proofs.Faults.{whole_by_place, whole_by_string}

@@ -1,5 +1,5 @@
 use Rattle.std.proofs.Common.{length, ◌-◌, ◌≤◌}
-use Rattle.sexpr_read.specs.Runs.{IsSettled}
+use Rattle.sexpr_read.specs.ReaderProgress.{IsSettled}
 use Rattle.sexpr_read.proofs.Reading.{Reading}
 use Rattle.sexpr_read.proofs.reader.read_forest.Given as goal
 

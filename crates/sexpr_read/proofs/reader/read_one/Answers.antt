@@ -1,9 +1,9 @@
 use Rattle.std.proofs.Common.{refl, ◌≡◌, ◌<◌, ◌≤◌, ◌+◌, suc, true, ◌∙◌, ap, length, arith}
 use Rattle.std.specs.Str.{IsCharBoundary}
-use Rattle.sexpr_read.specs.Bytes.{sign_of}
-use Rattle.sexpr_read.specs.Cells.{cells_of, forest_of}
+use Rattle.sexpr_read.specs.ByteClasses.{sign_of}
+use Rattle.sexpr_read.specs.ForestCells.{cells_of, forest_of}
 use Rattle.sexpr_read.specs.Spelling.{Spells, SpellsForest}
-use Rattle.sexpr_read.specs.Views.{root_of}
+use Rattle.sexpr_read.specs.TreeViews.{root_of}
 use Rattle.sexpr_read.proofs.Machine.{over_gap, over_first, over_close}
 use Rattle.sexpr_read.proofs.Faults.{stands_first, blank_gap, not_blank}
 use Rattle.sexpr_read.proofs.Unique.{forest_ordered}

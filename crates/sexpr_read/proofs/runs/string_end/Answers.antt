@@ -1,5 +1,5 @@
 use Rattle.std.proofs.Common.{◌≡◌, suc, ◌+◌, true, sym, ◌∙◌, arith}
-use Rattle.sexpr_read.specs.Bytes.{sign_of, is_itself}
+use Rattle.sexpr_read.specs.ByteClasses.{sign_of, is_itself}
 use Rattle.sexpr_read.specs.Spelling.{empty}
 use Rattle.sexpr_read.proofs.Spelled.{and_itself, and_escape, is_itself_else}
 use Rattle.sexpr_read.proofs.runs.string_end.Goals as goal

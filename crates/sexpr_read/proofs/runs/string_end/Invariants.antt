@@ -1,5 +1,5 @@
 use Rattle.std.proofs.Common.{length, ◌-◌, ◌≤◌}
-use Rattle.sexpr_read.specs.Bytes.{sign_of}
+use Rattle.sexpr_read.specs.ByteClasses.{sign_of}
 use Rattle.sexpr_read.specs.Spelling.{IsContent}
 use Rattle.sexpr_read.proofs.runs.string_end.Given as goal
 

@@ -1,5 +1,5 @@
 use Rattle.std.proofs.Common.{length, ◌-◌, ◌≡◌, ◌≤◌, true, ℕ, ◌<◌}
-use Rattle.sexpr_read.specs.Bytes.{sign_of, is_word}
+use Rattle.sexpr_read.specs.ByteClasses.{sign_of, is_word}
 use Rattle.sexpr_read.proofs.runs.word_end.Given as goal
 
 abbrev pub decreases-loop-end : goal.decreases-loop-end

@@ -1,6 +1,6 @@
 use Rattle.std.proofs.Common.{◌-◌, ◌+◌, sum_by, length, map, All, sym, ap, ◌∙◌, subst, arith}
 use Rattle.std.proofs.lemmas.List.{length-map}
-use Rattle.tile_pool.specs.Answers.{AreBatches}
+use Rattle.tile_pool.specs.NumberedValues.{AreBatches}
 use Rattle.steal_pool.specs.Seats.{AreOwners, AreLines, taken_with, pushed_by, taken_by}
 use Rattle.steal_pool.proofs.Workers.{ready_crew, back_owners, back_pushed, back_lines, back_kept, back_values}
 use Rattle.steal_pool.proofs.crew.run_crew.Goals as goal

@@ -1,5 +1,5 @@
 use Rattle.std.proofs.Common.{◌≡◌, ◌++◌, take, drop, length, All, sym, ap, ◌∙◌, subst}
-use Rattle.steal_pool.specs.Members.{IsReady, HaveRun}
+use Rattle.steal_pool.specs.PoolMembers.{IsReady, HaveRun}
 use Rattle.steal_pool.proofs.Related.{written_back}
 use Rattle.steal_pool.proofs.crew.run_members.Goals as goal
 

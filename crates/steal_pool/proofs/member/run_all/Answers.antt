@@ -1,5 +1,5 @@
 use Rattle.std.proofs.Common.{rules, get_or, sym, subst}
-use Rattle.steal_pool.specs.Members.{IsReady, HasRun}
+use Rattle.steal_pool.specs.PoolMembers.{IsReady, HasRun}
 use Rattle.steal_pool.proofs.member.run_all.Goals as goal
 
 pub for_each_mut-requires-clause-accepts : goal.for_each_mut-requires-clause-accepts

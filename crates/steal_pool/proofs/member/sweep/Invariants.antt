@@ -1,10 +1,10 @@
 use Rattle.std.proofs.Common.{◌≡◌, ℕ, ◌+◌, sum_by}
 use Rattle.steal_pool.specs.Seats.{AreLines, taken_with}
-use Rattle.steal_pool.specs.Shares.{IsShare}
+use Rattle.steal_pool.specs.SeatValues.{HasTakenValues}
 use Rattle.steal_pool.proofs.member.sweep.Given as goal
 
 abbrev pub invariant-loop-at : goal.invariant-loop-at
 invariant-loop-at g l =
     AreLines l.job.tiles l.job.others.now l.lines
     × ((h : ℕ → ℕ) → sum_by h l.share.hand.items + taken_with h l.initial.lines ≡ sum_by h l.initial.share.hand.items + taken_with h l.lines)
-    × IsShare (g.T.TileWork.gives l.job.work.now) l.share
+    × HasTakenValues (g.T.TileWork.gives l.job.work.now) l.share

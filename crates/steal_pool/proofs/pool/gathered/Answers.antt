@@ -1,6 +1,6 @@
 use Rattle.std.proofs.Common.{◌≡◌, ◌++◌, length, take, drop, sym, ap, ◌∙◌, subst}
-use Rattle.steal_pool.specs.Views.{stolen_tiles}
-use Rattle.tile_pool.specs.Answers.{AreAnswers, AreFull}
+use Rattle.steal_pool.specs.StolenViews.{stolen_tiles}
+use Rattle.tile_pool.specs.NumberedValues.{AreAnswers, AreFull}
 use Rattle.tile_pool.proofs.Placing.{filled}
 use Rattle.steal_pool.proofs.Related.{written_back}
 use Rattle.steal_pool.proofs.pool.gathered.Goals as goal

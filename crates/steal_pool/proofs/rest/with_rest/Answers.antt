@@ -1,6 +1,6 @@
 use Rattle.std.proofs.Common.{◌≡◌, ℕ, ◌++◌, ◌∷◌, [], true≢false, map, sum_by, sym, ap, ◌∙◌, subst, arith}
 use Rattle.claim_board.specs.DealMachine.{times, once_below}
-use Rattle.tile_pool.specs.Answers.{AreBatches}
+use Rattle.tile_pool.specs.NumberedValues.{AreBatches}
 use Rattle.steal_pool.proofs.LastHand.{each_once, one_batch_more}
 use Rattle.steal_pool.proofs.rest.with_rest.Goals.{then-failed, else-failed}
 use Rattle.steal_pool.proofs.rest.with_rest.Goals as goal

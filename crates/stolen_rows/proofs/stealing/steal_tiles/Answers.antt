@@ -1,7 +1,7 @@
 use denote.Exit.{no}
 use denote.Param.Send.{arg_sync, param_sync}
-use Rattle.pair_check.specs.Views.{checked_by}
-use Rattle.row_check.specs.Tiles.{AreRowsOfTile}
+use Rattle.pair_check.specs.CheckViews.{checked_by}
+use Rattle.row_check.specs.RowsOfTile.{AreRowsOfTile}
 use Rattle.tile_rows.proofs.Answered.{zip_answers}
 use Rattle.tile_rows.proofs.Crossing.{tiles_cross}
 use Rattle.stolen_rows.proofs.stealing.steal_tiles.Goals as goal

@@ -1,6 +1,6 @@
 use Rattle.std.proofs.Common.{◌≡◌, ℕ, ◌+◌, ◌<◌, List, length, drop, get_or, sym, ◌∙◌, subst, arith, Some, set, nat_lt}
 use Rattle.claim_board.specs.DealMachine.{times}
-use Rattle.tile_pool.specs.Answers.{Slot}
+use Rattle.tile_pool.specs.NumberedValues.{Slot}
 use Rattle.tile_pool.proofs.Batches.{one_less}
 use Rattle.tile_pool.proofs.Placing.{Placed, place_step, put_at}
 use Rattle.tile_pool.proofs.gather.place.Goals as goal

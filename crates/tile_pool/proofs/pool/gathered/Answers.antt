@@ -1,7 +1,7 @@
 use Rattle.std.proofs.Common.{◌≡◌, ◌++◌, length, take, drop, sym, ap, ◌∙◌, subst}
 use Rattle.std.proofs.lemmas.List.{length-map}
-use Rattle.claim_board.specs.Views.{deal_tiles, seat_hand}
-use Rattle.tile_pool.specs.Answers.{AreAnswers, AreBatches, AreFull}
+use Rattle.claim_board.specs.DealViews.{deal_tiles, seat_hand}
+use Rattle.tile_pool.specs.NumberedValues.{AreAnswers, AreBatches, AreFull}
 use Rattle.tile_pool.proofs.Placing.{filled}
 use Rattle.tile_pool.proofs.Crew.{written_back}
 use Rattle.tile_pool.proofs.pool.gathered.Goals as goal

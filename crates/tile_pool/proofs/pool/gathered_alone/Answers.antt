@@ -1,7 +1,7 @@
 use Rattle.std.proofs.Common.{◌≡◌, ◌∙◌, ap, sym, subst, List, [], ◌∷◌, ◌++◌, length, map, slice_index_or, Vec, Global, arith}
 use Rattle.std.proofs.lemmas.List.{length-map, length-append}
-use Rattle.claim_board.specs.Views.{dealt_hands, deal_tiles, seat_hand}
-use Rattle.tile_pool.specs.Answers.{AreValues}
+use Rattle.claim_board.specs.DealViews.{dealt_hands, deal_tiles, seat_hand}
+use Rattle.tile_pool.specs.NumberedValues.{AreValues}
 use Rattle.tile_pool.proofs.OneHand.{alone_in_order}
 use Rattle.tile_pool.proofs.pool.gathered_alone.Goals as goal
 

@@ -1,7 +1,7 @@
 use Rattle.std.proofs.Common.{◌≡◌, true, length, map, sym, ap, ◌∙◌, subst, arith, All}
 use Rattle.std.proofs.lemmas.List.{length-map}
-use Rattle.claim_board.specs.Views.{AreSeatsOf, seat_hand, seat_done}
-use Rattle.tile_pool.specs.Answers.{AreBatches}
+use Rattle.claim_board.specs.DealViews.{AreSeatsOf, seat_hand, seat_done}
+use Rattle.tile_pool.specs.NumberedValues.{AreBatches}
 use Rattle.tile_pool.proofs.Crew.{fresh_crew, back_seats, all_done, all_batches}
 use Rattle.tile_pool.proofs.pool.played.Goals as goal
 

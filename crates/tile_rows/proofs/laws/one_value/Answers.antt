@@ -3,8 +3,8 @@ use denote.Param.Send.{arg_sync, param_sync}
 use Rattle.std.proofs.Common.{get_or}
 use Rattle.pair_check.specs.PlainRow.{PlainRow}
 use Rattle.pair_check.specs.Rows.{IsRowOfTwo}
-use Rattle.pair_check.specs.Views.{checked_by}
-use Rattle.row_check.specs.Tiles.{IsAskedIn}
+use Rattle.pair_check.specs.CheckViews.{checked_by}
+use Rattle.row_check.specs.RowsOfTile.{IsAskedIn}
 use Rattle.row_check.proofs.OneList.{one_list_where}
 use Rattle.tile_rows.proofs.Crossing.{tiles_cross}
 use Rattle.tile_rows.proofs.laws.one_value.Goals as goal

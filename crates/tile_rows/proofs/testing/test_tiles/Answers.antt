@@ -1,8 +1,8 @@
 use denote.Exit.{no}
 use denote.Param.Send.{arg_sync, param_sync}
 use Rattle.std.proofs.lemmas.Result.{IfOk-weaker}
-use Rattle.pair_check.specs.Views.{checked_by}
-use Rattle.row_check.specs.Tiles.{AreRowsOfTile}
+use Rattle.pair_check.specs.CheckViews.{checked_by}
+use Rattle.row_check.specs.RowsOfTile.{AreRowsOfTile}
 use Rattle.tile_rows.proofs.Answered.{zip_answers}
 use Rattle.tile_rows.proofs.Crossing.{tiles_cross}
 use Rattle.tile_rows.proofs.testing.test_tiles.Goals as goal

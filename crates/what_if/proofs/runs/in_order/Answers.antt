@@ -1,6 +1,6 @@
 use Rattle.std.proofs.Common.{◌+◌, ℕ, List, Option, map, sym, subst, arith}
 use Rattle.edit_script.specs.Commands.{plain_command}
-use Rattle.tile_pool.specs.Answers.{AreAnswers}
+use Rattle.tile_pool.specs.NumberedValues.{AreAnswers}
 use Rattle.what_if.specs.Trials.{IsCountAt}
 use Rattle.what_if.proofs.RunCounts.{answers_more}
 use Rattle.what_if.proofs.runs.in_order.Goals as goal

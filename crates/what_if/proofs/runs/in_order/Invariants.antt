@@ -1,6 +1,6 @@
 use Rattle.std.proofs.Common.{◌≤◌, length, map, vec_capacity}
 use Rattle.edit_script.specs.Commands.{plain_command}
-use Rattle.tile_pool.specs.Answers.{AreAnswers}
+use Rattle.tile_pool.specs.NumberedValues.{AreAnswers}
 use Rattle.what_if.specs.Trials.{IsCountAt}
 use Rattle.what_if.proofs.runs.in_order.Given as goal
 

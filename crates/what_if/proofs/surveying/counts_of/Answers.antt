@@ -4,7 +4,7 @@ use Rattle.std.proofs.Common.{ℕ, List, Option, Vec, Global, length, map, sym, 
 use Rattle.std.proofs.lemmas.Result.{IfOk-weaker}
 use Rattle.edit_script.specs.Commands.{plain_command}
 use Rattle.what_if.specs.Trials.{IsCount}
-use Rattle.what_if.specs.Runs.{AreRuns}
+use Rattle.what_if.specs.CommandRuns.{AreCommandRuns}
 use Rattle.what_if.proofs.Crossing.{trials_cross}
 use Rattle.what_if.proofs.Each.{counted}
 use Rattle.what_if.proofs.surveying.counts_of.Goals as goal
@@ -16,8 +16,8 @@ pub in_order-requires-clause-runs : goal.in_order-requires-clause-runs
 in_order-requires-clause-runs g c =
     let s = c.args.session.now.state in
     let commands = map plain_command c.args.commands.now in
-    let are : AreRuns s commands c.min-stride.result c.in_ok-runs.runs.items = c.in_ok-runs.ensures.answers in
-    subst (λ (runs : List (Vec (Option ℕ) Global)). AreRuns s commands (length runs) runs) (sym c.deref.ensures.value) (subst (λ (n : ℕ). AreRuns s commands n c.in_ok-runs.runs.items) (sym are.long) are)
+    let are : AreCommandRuns s commands c.min-stride.result c.in_ok-runs.runs.items = c.in_ok-runs.ensures.answers in
+    subst (λ (runs : List (Vec (Option ℕ) Global)). AreCommandRuns s commands (length runs) runs) (sym c.deref.ensures.value) (subst (λ (n : ℕ). AreCommandRuns s commands n c.in_ok-runs.runs.items) (sym are.long) are)
 
 pub returns : goal.returns
 returns g c =

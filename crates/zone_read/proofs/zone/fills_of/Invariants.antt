@@ -1,6 +1,6 @@
 use Rattle.std.proofs.Common.{◌≡◌, length}
 use Rattle.sexpr_read.specs.Tree.{parts}
-use Rattle.sexpr_read.specs.Views.{tree_of, trees_left}
+use Rattle.sexpr_read.specs.TreeViews.{tree_of, trees_left}
 use Rattle.part_read.specs.Lists.{before}
 use Rattle.part_read.specs.Ready.{AreReady}
 use Rattle.zone_read.specs.ZoneOf.{fills_after}

@@ -1,10 +1,10 @@
 use Rattle.std.proofs.Common.{◌≡◌, sym, ap, subst, refl, true, []}
-use Rattle.sexpr_read.specs.Views.{tree_of}
+use Rattle.sexpr_read.specs.TreeViews.{tree_of}
 use Rattle.board_items.specs.declared.item.Item.{Item}
 use Rattle.board_items.specs.Boards.{is_admitted}
 use Rattle.zone_read.proofs.Filling.{area_is}
 use Rattle.zone_read.proofs.Admitting.{area_admitted}
-use Rattle.part_read.specs.Elements.{name_in}
+use Rattle.part_read.specs.ElementResults.{name_in}
 use Rattle.part_read.specs.Figures.{first_of}
 use Rattle.part_read.proofs.Plain.{plain_by}
 use Rattle.zone_read.proofs.zone.rule_area.Goals as goal

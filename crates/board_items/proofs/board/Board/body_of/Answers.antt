@@ -1,7 +1,7 @@
 use Rattle.std.proofs.Common.{◌≡◌, ◌<◌, ◌∙◌, ap, sym, subst, ℕ, List, length, get_or, Option, None, Some}
 use Rattle.board_items.specs.declared.item.Item.{Item}
 use Rattle.board_items.specs.Boards.{item_at}
-use Rattle.board_items.specs.Slots.{present, IsUnitIn}
+use Rattle.board_items.specs.ItemSlots.{present, IsUnitIn}
 use Rattle.board_items.proofs.SlotLists.{in_row, slot_is}
 use Rattle.board_items.proofs.UnitRows.{unit_in}
 use Rattle.board_items.proofs.board.Board.body_of.Goals as goal

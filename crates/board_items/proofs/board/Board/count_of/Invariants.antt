@@ -1,5 +1,5 @@
 use Rattle.std.proofs.Common.{◌≡◌, ◌+◌, length}
-use Rattle.board_items.specs.Walks.{unit_left}
+use Rattle.board_items.specs.BoardIterators.{unit_left}
 use Rattle.board_items.specs.Back.{entries_of}
 use Rattle.board_items.proofs.board.Board.count_of.Given as goal
 

@@ -1,9 +1,9 @@
 use Rattle.std.proofs.Common.{ℕ, List, Vec, subst, ◌∙◌, nat_eq, sym, ap}
 use Rattle.indexmap.proofs.CallerLemmas.{insert_entry-new}
 use Rattle.std.specs.declared.alloc.Global.{Global}
-use Rattle.board_items.specs.Kept.{AreIdsOf}
+use Rattle.board_items.specs.BoardCaches.{AreIdsOf}
 use Rattle.board_items.proofs.NetIds.{declared_lists}
-use Rattle.board_items.specs.Slots.{present}
+use Rattle.board_items.specs.ItemSlots.{present}
 use Rattle.std.specs.Prelude.{length}
 use Rattle.board_items.specs.Boards.{PlainBoard, with_net}
 use Rattle.board_items.proofs.Growing.{no_value, new_net, sound_declared}

@@ -1,7 +1,7 @@
 use Rattle.std.proofs.Common.{length, ◌<◌, sym, ◌∙◌, ap, subst, arith, eq-eqb}
 use Rattle.std.proofs.lemmas.Bool.{ne_eqb}
 use Rattle.board_items.specs.Boards.{PlainBoard}
-use Rattle.board_items.specs.Slots.{present, without_id}
+use Rattle.board_items.specs.ItemSlots.{present, without_id}
 use Rattle.board_items.proofs.SlotLists.{without_part}
 use Rattle.board_items.proofs.UnitRows.{as_many, not_of, all_of}
 use Rattle.board_items.proofs.board.Board.drop_if_of.Goals as goal

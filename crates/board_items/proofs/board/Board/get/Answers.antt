@@ -1,5 +1,5 @@
 use Rattle.std.proofs.Common.{◌≡◌, true, IfSome, ◌∙◌, ap, subst}
-use Rattle.board_items.specs.Slots.{present}
+use Rattle.board_items.specs.ItemSlots.{present}
 use Rattle.std.specs.Prelude.{length}
 use Rattle.board_items.specs.Boards.{PlainBoard, item_at, is_admitted}
 use Rattle.board_items.proofs.Admitted.{admitted_found}

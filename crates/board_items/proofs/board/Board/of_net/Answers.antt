@@ -1,6 +1,6 @@
 use Rattle.std.proofs.Common.{◌≡◌, ℕ, None, sym, ◌∙◌, ap, Vec}
 use Rattle.std.specs.declared.alloc.Global.{Global}
-use Rattle.board_items.specs.Slots.{present}
+use Rattle.board_items.specs.ItemSlots.{present}
 use Rattle.std.specs.Prelude.{length}
 use Rattle.board_items.specs.Boards.{PlainBoard, ids_of_net, name_of}
 use Rattle.board_items.proofs.Growing.{no_value}

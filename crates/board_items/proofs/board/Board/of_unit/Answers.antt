@@ -1,6 +1,6 @@
 use Rattle.std.proofs.Common.{◌≤◌, ◌-◌, nat_eq, length, drop, filter, ◌∙◌, ap, arith}
 use Rattle.board_items.specs.Boards.{PlainBoard}
-use Rattle.board_items.specs.Slots.{unit_items}
+use Rattle.board_items.specs.ItemSlots.{unit_items}
 use Rattle.board_items.proofs.UnitRows.{as_many, units_same}
 use Rattle.board_items.proofs.UnitPlaces.{units_part, part_short, items_part}
 use Rattle.board_items.proofs.board.Board.of_unit.Goals as goal
@@ -21,8 +21,8 @@ slice_bounds-result-end c =
     let inside : c.places_in-places.result.end ≤ length c.deref-2.result.now = omega (arith, many, within, same, slots) in
     inside
 
-pub invariant_of-result-clause-room : goal.invariant_of-result-clause-room
-invariant_of-result-clause-room c =
+pub invariant_of-result-clause-spare_capacity : goal.invariant_of-result-clause-spare_capacity
+invariant_of-result-clause-spare_capacity c =
     let many = as_many c.self.inside.slots.items c.self.inside.units.items c.self.invariant.units_in in
     let last = c.self.invariant.kept.sound.last_id in
     let ordered = c.places_in-places.ensures.ordered in

@@ -1,6 +1,6 @@
 use Rattle.std.proofs.Common.{◌≤◌, List, ℕ, ap, length, subst, arith}
 use Rattle.board_items.specs.Boards.{PlainBoard}
-use Rattle.board_items.specs.Slots.{ArePlacesOf, HaveIdsIn}
+use Rattle.board_items.specs.ItemSlots.{ArePlacesOf, HaveIdsIn}
 use Rattle.board_items.proofs.UnitRows.{as_many}
 use Rattle.board_items.proofs.UnitPlaces.{ids_in}
 use Rattle.board_items.proofs.board.Board.places_of.Goals as goal

@@ -1,9 +1,9 @@
 use Rattle.std.proofs.Common.{◌≡◌, ◌<◌, ◌∷◌, ◌++◌, [], ℕ, List, Option, true, refl, subst, sym, ap, ◌∙◌, length}
 use Rattle.board_items.specs.Boards.{PlainBoard, with_item, is_admitted}
 use Rattle.board_items.specs.declared.item.Item.{Item}
-use Rattle.board_items.specs.Slots.{present, UnitsRise}
-use Rattle.board_items.specs.Notes.{notes_of}
-use Rattle.board_items.specs.Refusals.{room_of}
+use Rattle.board_items.specs.ItemSlots.{present, UnitsRise}
+use Rattle.board_items.specs.ItemNotes.{notes_of}
+use Rattle.board_items.specs.ItemRefusals.{capacity_of}
 use Rattle.board_items.proofs.Adding.{kept_added, board_added, notes_added}
 use Rattle.board_items.proofs.NetIds.{net_at, place_fits, kept_lists, kept_same}
 use Rattle.board_items.proofs.TagRows.{tags_same, tags_added}
@@ -37,7 +37,7 @@ invariant_of-self-2 c =
     record {
       kept = kept_added before c.args.item c.in_ok-id.id _ c.self.inside.marks.items _ c.self.inside.of_nets.items c.in-Some.place _ _ _ c.self.inside.live _ c.self.inside.slots.items _ c.self.invariant.kept
           (subst (λ (b : PlainBoard). is_admitted b c.args.item ≡ true) (sym c.self.view_is) c.requires.admitted)
-          (subst (λ (b : PlainBoard). 0 < room_of b) (sym c.self.view_is) c.requires.room) c.requires.unit
+          (subst (λ (b : PlainBoard). 0 < capacity_of b) (sym c.self.view_is) c.requires.spare_capacity) c.requires.unit
           refl refl c.in_ok-id.ensures.id c.in_ok-id.ensures.slots c.in_ok-id.ensures.marks c.max-next_unit.ensures at c.index_mut-of_net.ensures.value c.in_ok-id.ensures.of_net refl;
       notes = notes_added before c.args.item c.in_ok-id.id c.self.inside.slots.items _ c.self.inside.notes.items _ refl refl c.in_ok-id.ensures.id c.in_ok-id.ensures.slots c.self.invariant.notes c.in_ok-id.ensures.notes;
       tags_in = tags_added c.self.inside.slots.items _ c.self.inside.tags.items _ c.args.item c.self.invariant.tags_in c.in_ok-id.ensures.slots c.in_ok-id.ensures.tags;

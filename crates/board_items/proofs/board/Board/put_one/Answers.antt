@@ -1,7 +1,7 @@
 use Rattle.std.proofs.Common.{◌≡◌, ◌<◌, ◌∙◌, ap, sym, subst, refl, ℕ, List, Option, length, get_or, set, cond, None, Some, arith}
 use Rattle.board_items.specs.declared.item.Item.{Item}
 use Rattle.board_items.specs.Boards.{PlainBoard}
-use Rattle.board_items.specs.Slots.{present, AreUnitsIn}
+use Rattle.board_items.specs.ItemSlots.{present, AreUnitsIn}
 use Rattle.board_items.specs.Tags.{AreTagsIn}
 use Rattle.board_items.specs.Back.{kept_entry, placed, id_placed, FitsOne}
 use Rattle.board_items.proofs.NetIds.{net_at, place_fits, kept_lists, kept_same}
@@ -22,9 +22,9 @@ invariant_of-self c =
     let before : PlainBoard = record { copper = c.self.inside.copper; nets = c.self.inside.names.entries; items = present 0 c.self.inside.slots.items; next_id = length c.self.inside.slots.items; next_unit = c.self.inside.next_unit } in
     let at = net_at c.args.kept.item.net before.nets c.in-Some.place (sym c.in-Some.ensures.index) in
     record {
-      kept = kept_same before _ _ c.self.inside.marks.items _ _ _ c.self.invariant.kept.sound c.self.invariant.kept.marks c.self.invariant.kept.count refl refl c.make_room.ensures.marks_stay
-          (kept_lists before c.args.kept.item.net _ c.self.inside.of_nets.items c.in-Some.place _ _ _ c.self.invariant.kept.of_nets at c.index_mut-ids.ensures.value c.make_room.ensures.ids_stay refl);
-      notes = c.make_room.ensures.notes_stay ∙ c.self.invariant.notes;
+      kept = kept_same before _ _ c.self.inside.marks.items _ _ _ c.self.invariant.kept.sound c.self.invariant.kept.marks c.self.invariant.kept.count refl refl c.reserve_one.ensures.marks_stay
+          (kept_lists before c.args.kept.item.net _ c.self.inside.of_nets.items c.in-Some.place _ _ _ c.self.invariant.kept.of_nets at c.index_mut-ids.ensures.value c.reserve_one.ensures.ids_stay refl);
+      notes = c.reserve_one.ensures.notes_stay ∙ c.self.invariant.notes;
       tags_in = c.self.invariant.tags_in;
       units_in = c.self.invariant.units_in;
       rise = c.self.invariant.rise;
@@ -57,11 +57,11 @@ invariant_of-self-2 c =
     let many = as_many c.self.inside.slots.items c.self.inside.units.items c.self.invariant.units_in in
     record {
       kept = kept_put (kept_entry c.args.kept) before _ _ c.self.inside.marks.items _ c.self.inside.of_nets.items c.in-Some.place _ c.index_mut-ids.result.now _ c.self.inside.live _ c.self.invariant.kept fit back
-          (as_long c.args.kept.id c.self.inside.slots.items c.replace.new.self) at c.index_mut-ids.ensures.value (c.put_id.ensures ∙ ap (id_placed c.args.kept.id) c.make_room.ensures.ids_stay)
-          (c.put_if.ensures ∙ ap (λ (ms : List ℕ). cond c.is_mark.result (id_placed c.args.kept.id ms) ms) c.make_room.ensures.marks_stay
+          (as_long c.args.kept.id c.self.inside.slots.items c.replace.new.self) at c.index_mut-ids.ensures.value (c.put_id.ensures ∙ ap (id_placed c.args.kept.id) c.reserve_one.ensures.ids_stay)
+          (c.put_if.ensures ∙ ap (λ (ms : List ℕ). cond c.is_mark.result (id_placed c.args.kept.id ms) ms) c.reserve_one.ensures.marks_stay
           ∙ ap (λ t. cond t (id_placed c.args.kept.id c.self.inside.marks.items) c.self.inside.marks.items) c.is_mark.ensures) refl;
       notes = notes_put (kept_entry c.args.kept) before _ c.self.inside.notes.items _ c.self.invariant.kept.sound c.self.invariant.notes back
-          (c.put_if-2.ensures ∙ ap (λ (ms : List ℕ). cond c.is_note.result (id_placed c.args.kept.id ms) ms) c.make_room.ensures.notes_stay
+          (c.put_if-2.ensures ∙ ap (λ (ms : List ℕ). cond c.is_note.result (id_placed c.args.kept.id ms) ms) c.reserve_one.ensures.notes_stay
           ∙ ap (λ t. cond t (id_placed c.args.kept.id c.self.inside.notes.items) c.self.inside.notes.items) c.is_note.ensures);
       tags_in = subst (λ (slot : Option Item). AreTagsIn (set c.self.inside.slots.items c.args.kept.id slot) (set c.self.inside.tags.items c.args.kept.id c.tag_of.result)) (sym is)
           (tags_put c.self.inside.slots.items c.self.inside.tags.items c.args.kept.id c.args.kept.item c.tag_of.result c.self.invariant.tags_in c.tag_of.ensures);

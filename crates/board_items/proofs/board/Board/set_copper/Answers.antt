@@ -1,5 +1,5 @@
 use Rattle.std.proofs.Common.{◌≡◌, subst, sym}
-use Rattle.board_items.specs.Slots.{present}
+use Rattle.board_items.specs.ItemSlots.{present}
 use Rattle.std.specs.Prelude.{length}
 use Rattle.board_items.specs.Boards.{PlainBoard}
 use Rattle.board_items.proofs.Growing.{sound_layered}

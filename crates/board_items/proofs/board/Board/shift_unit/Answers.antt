@@ -4,8 +4,8 @@ use Rattle.std.specs.Vec.{with_items}
 use Rattle.int_algebra.proofs.Scalars.{passed, cleaned}
 use Rattle.board_items.specs.declared.item.Item.{Item}
 use Rattle.board_items.specs.Boards.{PlainBoard}
-use Rattle.board_items.specs.Moves.{unit_stays, IsMoved, HaveFirstPoints}
-use Rattle.board_items.specs.Slots.{present, is_slot_on_board, IsMovedSlot}
+use Rattle.board_items.specs.ItemMoves.{unit_stays, IsMoved, HaveFirstPoints}
+use Rattle.board_items.specs.ItemSlots.{present, is_slot_on_board, IsMovedSlot}
 use Rattle.board_items.proofs.SlotLists.{points_moved}
 use Rattle.board_items.proofs.Moving.{on_board, stays_passed, kept_moved, board_moved, notes_moved}
 use Rattle.board_items.proofs.TagRows.{tags_moved}

@@ -18,7 +18,7 @@ loop-id-init c =
       board = sym (ap (λ (es : List (ℕ × Item)). record c.args.self.now { items = es }) (passed_before c.args.unit from c.places_of-places.result.end c.args.self.now.items all));
       list = sym (ap (λ (es : List (ℕ × Item)). map kept_entry c.args.items.now.items ++ es) none ∙ append-nil (map kept_entry c.args.items.now.items));
       len = omega (arith, long);
-      room = omega arith;
+      spare_capacity = omega arith;
     }
 
 pub take_own-requires-clause-id : goal.take_own-requires-clause-id
@@ -27,8 +27,8 @@ take_own-requires-clause-id c =
     let last = c.places_of-places.ensures.within in
     omega (arith, next, last)
 
-pub take_own-requires-clause-room : goal.take_own-requires-clause-room
-take_own-requires-clause-room c =
+pub take_own-requires-clause-spare_capacity : goal.take_own-requires-clause-spare_capacity
+take_own-requires-clause-spare_capacity c =
     let own : own_at c.loop-id.id c.args.unit c.loop-id.self.items ≡ own_at c.loop-id.id c.args.unit c.args.self.now.items =
     ap (λ (b : PlainBoard). own_at c.loop-id.id c.args.unit b.items) c.loop-id.invariant.board ∙ own_left c.args.unit c.loop-id.id c.args.self.now.items in
     let one = ap length (one_taken c.args.unit c.loop-id.id 0 c.args.self.now.next_id c.args.self.now.items c.places_of-places.ensures.sound.ids)
@@ -52,7 +52,7 @@ loop-id-preserved c =
           ∙ append_assoc (map kept_entry c.args.items.now.items) (taken_to c.args.unit c.loop-id.id c.args.self.now.items) (own_at c.loop-id.id c.args.unit c.args.self.now.items)
           ∙ ap (λ (es : List (ℕ × Item)). map kept_entry c.args.items.now.items ++ es) (sym one);
       len = omega (arith, more, long);
-      room = omega arith;
+      spare_capacity = omega arith;
     }
 
 pub returns-clause-taken : goal.returns-clause-taken

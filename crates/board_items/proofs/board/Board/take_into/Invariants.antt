@@ -11,5 +11,5 @@ invariant-loop-id l = record {
   board : l.self ≡ record l.fn.self { items = passed_unit l.unit l.id l.fn.self.items };
   list : map kept_entry l.items.items ≡ map kept_entry l.fn.items.items ++ taken_to l.unit l.id l.fn.self.items;
   len : vec_len l.items ≡ vec_len l.fn.items + length (taken_to l.unit l.id l.fn.self.items);
-  room : vec_capacity l.items ≡ vec_capacity l.fn.items;
+  spare_capacity : vec_capacity l.items ≡ vec_capacity l.fn.items;
 }

@@ -1,6 +1,6 @@
 use Rattle.std.proofs.Common.{◌≡◌, None, Some, length, set, cond, filter, not, nat_eq, refl, sym, ◌∙◌, ap, arith}
 use Rattle.board_items.specs.Boards.{PlainBoard, item_at}
-use Rattle.board_items.specs.Slots.{present, without_id}
+use Rattle.board_items.specs.ItemSlots.{present, without_id}
 use Rattle.board_items.proofs.Admitted.{net_declared}
 use Rattle.board_items.proofs.Growing.{no_value}
 use Rattle.board_items.proofs.NetIds.{net_at, place_fits}

@@ -1,7 +1,7 @@
 use Rattle.std.proofs.Common.{◌≡◌, ◌<◌, ◌∙◌, ap, sym, subst, length, get_or, Option, None, Some, arith}
 use Rattle.board_items.specs.declared.item.Item.{Item}
 use Rattle.board_items.specs.Boards.{PlainBoard, item_at}
-use Rattle.board_items.specs.Slots.{present, IsUnitIn}
+use Rattle.board_items.specs.ItemSlots.{present, IsUnitIn}
 use Rattle.board_items.proofs.SlotLists.{slot_is}
 use Rattle.board_items.proofs.UnitRows.{as_many, unit_in}
 use Rattle.board_items.proofs.board.Board.unit_at.Goals as goal

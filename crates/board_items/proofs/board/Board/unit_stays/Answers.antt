@@ -3,8 +3,8 @@ use Rattle.std.specs.List.{list_all}
 use Rattle.int_algebra.proofs.Scalars.{passed, cleaned}
 use Rattle.board_items.specs.declared.item.Item.{Item}
 use Rattle.board_items.specs.Boards.{PlainBoard}
-use Rattle.board_items.specs.Moves.{unit_stays}
-use Rattle.board_items.specs.Slots.{present, is_slot_on_board, slot_stays}
+use Rattle.board_items.specs.ItemMoves.{unit_stays}
+use Rattle.board_items.specs.ItemSlots.{present, is_slot_on_board, slot_stays}
 use Rattle.board_items.proofs.SlotLists.{stays_slots}
 use Rattle.board_items.proofs.Moving.{on_board}
 use Rattle.board_items.proofs.UnitRows.{as_many, units_same}

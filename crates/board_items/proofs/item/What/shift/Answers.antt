@@ -2,7 +2,7 @@ use Rattle.std.proofs.Common.{refl, sym, subst, ◌∙◌}
 use Rattle.board_items.specs.declared.parts.Part.{Part}
 use Rattle.board_items.specs.declared.item.What.{What}
 use Rattle.board_items.specs.declared.item.What.TheVariants.{Area}
-use Rattle.board_items.specs.Moves.{KindIsShifted, IsShiftedPart}
+use Rattle.board_items.specs.ItemMoves.{KindIsShifted, IsShiftedPart}
 use Rattle.board_items.proofs.item.What.shift.Goals as goal
 
 pub returns-in-Area : goal.returns-in-Area

@@ -1,5 +1,5 @@
 use Rattle.std.proofs.Common.{◌≡◌, ◌∙◌, sym, subst}
-use Rattle.sexpr_read.specs.Views.{tree_of}
+use Rattle.sexpr_read.specs.TreeViews.{tree_of}
 use Rattle.board_write.specs.declared.places.Moving.{Moving}
 use Rattle.board_write.specs.declared.places.Moving.TheVariants.{Nothing, First}
 use Rattle.board_write.specs.Settings.{inside, behind}

@@ -1,5 +1,5 @@
 use Rattle.std.proofs.Common.{◌∙◌, sym}
-use Rattle.sexpr_read.specs.Views.{tree_of}
+use Rattle.sexpr_read.specs.TreeViews.{tree_of}
 use Rattle.board_write.proofs.Groves.{unit_first, unit_all}
 use Rattle.board_write.proofs.places.Moving.of_unit.Goals as goal
 

@@ -1,7 +1,7 @@
 use Rattle.std.proofs.Common.{◌≡◌, ◌∙◌, ap, sym, subst, length, ℤ, List}
 use Rattle.box_index.specs.declared.entry.Entry.{Entry}
 use Rattle.box_index.specs.Tiles.{PlainIndex, IsSoundIndex, held_of, near_of}
-use Rattle.box_index.specs.Shares.{AreShared}
+use Rattle.box_index.specs.SharedLists.{AreShared}
 use Rattle.box_index.proofs.Buckets.{index_of}
 use Rattle.box_index.proofs.Copies.{same_reach}
 use Rattle.box_index.proofs.index.TileIndex.copy.Goals as goal

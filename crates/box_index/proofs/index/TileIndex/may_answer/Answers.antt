@@ -1,9 +1,9 @@
 use Rattle.std.proofs.Common.{◌<◌, sym, subst, arith}
 use Rattle.std.specs.List.{All}
 use Rattle.box_index.specs.declared.shared.Shared.{Shared}
-use Rattle.box_index.specs.Corners.{BeginsBy}
+use Rattle.box_index.specs.EntryOrigins.{BeginsBy}
 use Rattle.box_index.specs.Tiles.{PlainIndex, IsSoundIndex, near_of, tile_count}
-use Rattle.box_index.specs.Shares.{AreShared}
+use Rattle.box_index.specs.SharedLists.{AreShared}
 use Rattle.box_index.proofs.Begins.{none_in_column, none_in_row}
 use Rattle.box_index.proofs.Buckets.{complete}
 use Rattle.box_index.proofs.index.TileIndex.may_answer.Goals as goal

@@ -4,7 +4,7 @@ use Rattle.box_index.specs.declared.entry.Entry.{Entry}
 use Rattle.box_index.specs.declared.kept.Sides.{Sides}
 use Rattle.box_index.specs.Tiles.{without}
 use Rattle.box_index.specs.Cuts.{IsCut}
-use Rattle.box_index.specs.Kept.{entries_of, far_entries, all_entries}
+use Rattle.box_index.specs.BoxSlots.{entries_of, far_entries, all_entries}
 use Rattle.box_index.proofs.Buckets.{refilled}
 use Rattle.box_index.proofs.FarLemmas.{near_without, behind_without, found_back, without_far}
 use Rattle.box_index.proofs.kept.KeptBoxes.take_out.Goals as goal

@@ -1,6 +1,6 @@
 use Rattle.std.proofs.Common.{subst}
 use Rattle.std.specs.Prelude.{◌≡◌, IfOk}
-use Rattle.drc_state.specs.Changes.{PlainChange, plain_change, is_replace}
+use Rattle.drc_state.specs.StateChanges.{PlainChange, plain_change, is_replace}
 use Rattle.drc_session.specs.Sessions.{IsTurned, IsDealt}
 use Rattle.drc_session.proofs.session.Session.turn.Goals as goal
 

@@ -2,7 +2,7 @@ use Rattle.std.proofs.Common.{◌≡◌, ◌∙◌, List, sym, ap, subst}
 use Rattle.geo_seg.specs.declared.points.Point.{Point}
 use Rattle.geo_seg.specs.Boxes.{IsLeastBox}
 use Rattle.geo_seg.specs.Inside.{IsInside}
-use Rattle.geo_seg.specs.Kept.{corners_of}
+use Rattle.geo_seg.specs.PolygonCaches.{corners_of}
 use Rattle.geo_seg.proofs.Enclosed.{poly_box}
 use Rattle.geo_seg.proofs.polygon.Poly.bounds.Goals as goal
 

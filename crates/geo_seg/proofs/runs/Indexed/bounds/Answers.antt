@@ -1,7 +1,7 @@
 use Rattle.std.proofs.Common.{pos, sym, subst}
 use Rattle.geo_seg.specs.declared.boxes.Bounds.{Bounds}
 use Rattle.geo_seg.specs.Boxes.{FitsWithin}
-use Rattle.geo_seg.specs.Runs.{sides_of}
+use Rattle.geo_seg.specs.RunBoxes.{sides_of}
 use Rattle.geo_seg.proofs.CornerBoxes.{box_fits}
 use Rattle.geo_seg.proofs.runs.Indexed.bounds.Goals as goal
 

@@ -2,7 +2,7 @@ use Rattle.std.proofs.Common.{ℕ, List, IfSome, take, drop, subst, sym}
 use Rattle.geo_seg.specs.declared.frames.Frame.{Frame}
 use Rattle.geo_seg.specs.declared.runs.TheConstants.{FOURTH_RUN}
 use Rattle.geo_seg.specs.Inside.{outline}
-use Rattle.geo_seg.specs.Runs.{AreRuns, IsRunBox}
+use Rattle.geo_seg.specs.RunBoxes.{AreRuns, IsRunBox}
 use Rattle.geo_seg.proofs.runs.Indexed.run_box.Goals as goal
 
 pub returns-in-4096 : goal.returns-in-4096

@@ -1,7 +1,7 @@
 use Rattle.std.proofs.Common.{List, sym, subst}
 use Rattle.geo_seg.specs.declared.points.Point.{Point}
 use Rattle.geo_seg.specs.declared.runs.TheConstants.{FIRST_RUN, SECOND_RUN, THIRD_RUN, FOURTH_RUN}
-use Rattle.geo_seg.specs.Corners.{IsCornerBox}
+use Rattle.geo_seg.specs.PolygonCorners.{IsCornerBox}
 use Rattle.geo_seg.specs.Inside.{outline}
 use Rattle.geo_seg.proofs.Shifted.{runs_of_shifted, runs_fit, some_stays}
 use Rattle.geo_seg.proofs.runs.Indexed.shift.Goals as goal

@@ -1,7 +1,7 @@
 use Rattle.std.proofs.Common.{arith, sym, ◌∙◌, ap, ◌≡◌, ◌∷◌, ◌<◌, length, List}
 use Rattle.std.proofs.lemmas.Bool.{eqb-true, eqb-false}
 use Rattle.json_exact.specs.Json.{square, values}
-use Rattle.json_exact.specs.Cells.{all_parts, first_value, other_cells}
+use Rattle.json_exact.specs.JsonCells.{all_parts, first_value, other_cells}
 use Rattle.json_exact.specs.declared.cells.Cell.{Cell}
 use Rattle.json_exact.proofs.Decoding.{one_left, nothing_left, left_over}
 use Rattle.json_exact.proofs.handles.ItemsIterator.next.Goals as goal

@@ -1,7 +1,7 @@
 use Rattle.std.proofs.Common.{sym, ◌∙◌, ap, Some, List}
-use Rattle.json_exact.specs.Cells.{first_value, all_parts, own_cells, other_cells}
+use Rattle.json_exact.specs.JsonCells.{first_value, all_parts, own_cells, other_cells}
 use Rattle.json_exact.specs.Json.{curly, first_named}
-use Rattle.json_exact.specs.Bytes.{same_bytes}
+use Rattle.json_exact.specs.ByteComparisons.{same_bytes}
 use Rattle.json_exact.specs.declared.cells.Cell.{Cell}
 use Rattle.json_exact.proofs.Decoding.{member_found, member_passed, no_members}
 use Rattle.json_exact.proofs.handles.Value.get.Goals as goal

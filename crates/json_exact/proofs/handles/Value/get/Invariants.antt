@@ -1,9 +1,9 @@
 use Rattle.std.proofs.Common.{length, ◌≡◌}
 use Rattle.json_exact.specs.Json.{curly, member, first_named}
-use Rattle.json_exact.specs.Bytes.{same_bytes}
+use Rattle.json_exact.specs.ByteComparisons.{same_bytes}
 use Rattle.json_exact.specs.Handles.{json_of}
-use Rattle.json_exact.specs.Cells.{all_parts}
-use Rattle.json_exact.specs.Texts.{AreTexts}
+use Rattle.json_exact.specs.JsonCells.{all_parts}
+use Rattle.json_exact.specs.CellTexts.{AreTexts}
 use Rattle.json_exact.proofs.handles.Value.get.Given as goal
 
 abbrev pub invariant-members : goal.invariant-members

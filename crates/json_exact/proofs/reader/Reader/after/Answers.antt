@@ -1,5 +1,5 @@
 use Rattle.std.proofs.Common.{arith, sym, subst, ◌∙◌}
-use Rattle.json_exact.specs.Refusals.{IsRefused}
+use Rattle.json_exact.specs.JsonRefusals.{IsRefused}
 use Rattle.json_exact.proofs.Calls.{behind_top, after_over, after_closes, after_bad, after_names, after_items}
 use Rattle.json_exact.proofs.reader.Reader.after.Goals as goal
 

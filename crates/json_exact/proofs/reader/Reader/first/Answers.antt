@@ -1,5 +1,5 @@
 use Rattle.std.proofs.Common.{sym, subst, ◌∙◌}
-use Rattle.json_exact.specs.Refusals.{IsRefused}
+use Rattle.json_exact.specs.JsonRefusals.{IsRefused}
 use Rattle.json_exact.proofs.Onward.{first_over}
 use Rattle.json_exact.proofs.Calls.{first_closes, first_names, first_items}
 use Rattle.json_exact.proofs.reader.Reader.first.Goals as goal

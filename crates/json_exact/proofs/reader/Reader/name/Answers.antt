@@ -1,5 +1,5 @@
 use Rattle.std.proofs.Common.{sym, subst}
-use Rattle.json_exact.specs.Refusals.{IsRefused}
+use Rattle.json_exact.specs.JsonRefusals.{IsRefused}
 use Rattle.json_exact.proofs.Onward.{name_over, name_on}
 use Rattle.json_exact.proofs.reader.Reader.name.Goals as goal
 

@@ -1,5 +1,5 @@
 use Rattle.std.proofs.Common.{sym, subst}
-use Rattle.json_exact.specs.Refusals.{IsRefused}
+use Rattle.json_exact.specs.JsonRefusals.{IsRefused}
 use Rattle.json_exact.proofs.Onward.{name_bad, name_stops, name_turn}
 use Rattle.json_exact.proofs.reader.Reader.name_here.Goals as goal
 

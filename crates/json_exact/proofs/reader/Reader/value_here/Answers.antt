@@ -1,6 +1,6 @@
 use Rattle.std.proofs.Common.{sym, subst, refl}
 use Rattle.json_exact.specs.Json.{square, curly}
-use Rattle.json_exact.specs.Refusals.{IsRefused}
+use Rattle.json_exact.specs.JsonRefusals.{IsRefused}
 use Rattle.json_exact.proofs.Turns.{open_turn, top_below}
 use Rattle.json_exact.proofs.Onward.{leaf_turn}
 use Rattle.json_exact.proofs.Tokens.{leaf_bad}

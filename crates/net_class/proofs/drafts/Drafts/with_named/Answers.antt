@@ -4,8 +4,8 @@ use Rattle.std.specs.HashSet.{contains_text}
 use Rattle.std.specs.String.{string_bytes}
 use Rattle.std.proofs.lemmas.Map.Text.{hash_set_updates_text}
 use Rattle.net_class.specs.ClassesOf.{Written}
-use Rattle.net_class.specs.Walk.{with_written}
-use Rattle.net_class.specs.Views.{written_class, HasNames}
+use Rattle.net_class.specs.ProjectWalk.{with_written}
+use Rattle.net_class.specs.ClassValues.{written_class, HasNames}
 use Rattle.net_class.proofs.Named.{one_more, stays, grows, not_false, not_true}
 use Rattle.net_class.proofs.drafts.Drafts.with_named.Goals as goal
 

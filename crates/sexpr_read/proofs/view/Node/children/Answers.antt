@@ -1,5 +1,5 @@
 use Rattle.std.proofs.Common.{arith}
-use Rattle.sexpr_read.specs.Views.{trees_left}
+use Rattle.sexpr_read.specs.TreeViews.{trees_left}
 use Rattle.sexpr_read.proofs.Splits.{trees_fit}
 use Rattle.sexpr_read.proofs.view.Node.children.Goals as goal
 

@@ -1,7 +1,7 @@
 use Rattle.std.proofs.Common.{subst}
 use Rattle.edit_script.specs.Commands.{plain_command, edit}
 use Rattle.undo_log.specs.Ways.{PlainHistory, nearest_first}
-use Rattle.undo_log.specs.Taking.{IsTaken}
+use Rattle.undo_log.specs.HistoryCalls.{IsHistoryStepTaken}
 use Rattle.undo_log.proofs.Running.{plain, edit_goes_on}
 use Rattle.undo_log.proofs.Stepped.{edit_taken}
 use Rattle.undo_log.proofs.history.History.apply.Goals as goal
@@ -17,7 +17,7 @@ returns-in-Ok-clause-taken g c =
     let was = c.self.invariant c.if-self.false in
     let before = plain c.self.inside.session (nearest_first c.self.inside.back.items) (nearest_first c.self.inside.on.items) c.self.inside.stopped in
     let after = plain c.carry_out.new.session (nearest_first c.carry_out.new.back.items) (nearest_first c.carry_out.new.on.items) c.self.inside.stopped in (
-      subst (λ (h : PlainHistory). IsTaken h after (edit command) c.in-Ok.applied) c.self.view_is
+      subst (λ (h : PlainHistory). IsHistoryStepTaken h after (edit command) c.in-Ok.applied) c.self.view_is
           (edit_taken before after command c.in-Ok.applied c.in-Ok.ensures.carried.0 c.in-Ok.ensures.noted c.if-self.false c.if-self.false (was.past, was.ways)),
       c.in-Ok.ensures.carried.1,
     )

@@ -11,7 +11,7 @@ places-preserved g c =
     let work = c.args.self.now in
     let commands = map plain_command work.commands.now in
     let inv = c.places.invariant in
-    let found = subst (λ r. IfOk r (IsCountAt c.places.desk.state commands c.places.place)) c.in-Ok.is c.count_at-counted.ensures.count in
+    let found = subst (λ r. IfOk r (IsCountAt c.places.trial_scratch.state commands c.places.place)) c.in-Ok.is c.count_at-counted.ensures.count in
     let count = subst (λ (x : PlainSession). IsCountAt x.state commands c.places.place c.in-Ok.count) inv.same found in
     record {
       same = c.count_at-counted.ensures.same ∙ inv.same;

@@ -5,7 +5,7 @@ use Rattle.what_if.proofs.work.TrialsTileWork.test.Given as goal
 
 abbrev pub invariant-places : goal.invariant-places
 invariant-places g l = record {
-  same : l.desk ≡ l.self.session.now;
+  same : l.trial_scratch ≡ l.self.session.now;
   so_far : IsRunSoFar l.self.session.now.state (map plain_command l.self.commands.now) l.number l.self.stride l.place l.counts.items;
 }
 

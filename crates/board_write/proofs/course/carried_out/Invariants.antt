@@ -1,8 +1,0 @@
-use Rattle.std.proofs.Common.{map, take}
-use Rattle.edit_script.specs.Commands.{plain_command}
-use Rattle.board_write.specs.Course.{Reached}
-use Rattle.board_write.proofs.course.carried_out.Given as goal
-
--- the commands so far were carried out
-abbrev pub invariant-loop-command : goal.invariant-loop-command
-invariant-loop-command l = Reached l.fn.board (map plain_command (take l.command-index l.commands)) l.course

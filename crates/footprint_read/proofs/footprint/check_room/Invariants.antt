@@ -1,7 +1,0 @@
-use Rattle.std.proofs.Common.{◌≡◌, drop}
-use Rattle.footprint_read.specs.FootprintOf.{with_room}
-use Rattle.footprint_read.proofs.footprint.check_room.Given as goal
-
--- what is left decides, since there is room for those before
-abbrev pub invariant-loop-i : goal.invariant-loop-i
-invariant-loop-i l = with_room l.board l.unit l.i (drop l.i l.all) ≡ with_room l.board l.unit 0 l.all

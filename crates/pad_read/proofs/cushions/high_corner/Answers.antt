@@ -1,5 +1,0 @@
-use Rattle.pad_read.proofs.Corners.{high_is}
-use Rattle.pad_read.proofs.cushions.high_corner.Goals as goal
-
-pub returns : goal.returns
-returns c = high_is c.args.at c.args.cushion c.requires.at c.requires.small

@@ -1,5 +1,0 @@
-use Rattle.pad_read.proofs.Corners.{low_is}
-use Rattle.pad_read.proofs.cushions.low_corner.Goals as goal
-
-pub returns : goal.returns
-returns c = low_is c.args.at c.args.cushion c.requires.at c.requires.small

@@ -1,8 +1,0 @@
--- Room on a board for items that come one after another.
-use Rattle.std.specs.Prelude.{ℕ, Bool, ◌&&◌, nat_lt}
-use Rattle.board_items.specs.Boards.{PlainBoard}
-use Rattle.board_items.specs.Refusals.{room_of}
-
--- there is room for an item more after so many: an id, a place in the list, and a unit number
-abbrev pub has_room_after : ℕ → PlainBoard → ℕ → Bool
-has_room_after items board unit = nat_lt items (room_of board) && nat_lt unit 4294967295

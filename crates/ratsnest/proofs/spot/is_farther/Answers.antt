@@ -1,5 +1,0 @@
-use Rattle.ratsnest.proofs.Spots.{longer_is_more}
-use Rattle.ratsnest.proofs.spot.is_farther.Goals as goal
-
-pub returns : goal.returns
-returns c = λ yes. longer_is_more c.args.best c.args.from.now c.args.to.now c.square.result c.square.ensures (c.is_below.ensures yes)

@@ -1,7 +1,0 @@
-use Rattle.std.proofs.Common.{All}
-use Rattle.pair_check.specs.Views.{checked_by}
-use Rattle.row_check.specs.Hands.{StandsAt}
-use Rattle.row_check.proofs.hands.hands_of.Given as goal
-
-abbrev pub invariant-loop-entry : goal.invariant-loop-entry
-invariant-loop-entry l = All (StandsAt (checked_by l.view)) l.hands.items
