@@ -112,15 +112,37 @@ impl What {
     }
 }
 
+/// The names of the nets of a new board: net 0 alone, whose name is empty.
+fn first_names(alloc: Global) -> Result<IndexMap<u32, Name>, AllocError>
+    ensures { IfOk result (λ names. names.entries ≡ (0, []) ∷ []) }
+{
+    let mut names = IndexMap::new(alloc);
+    match names.insert(0, Name::of(Vec::new(alloc))) {
+        Ok(before) => {
+            drop(before);
+            Ok(names)
+        }
+        Err(error) => {
+            drop(error);
+            drop(names);
+            Err(AllocError)
+        }
+    }
+}
+
 impl Board {
     /// A board with these copper layers, and with no net but net 0, whose name is empty.
     pub fn new(alloc: Global, copper: LayerSet) -> Result<Board, AllocError>
         ensures { IfOk result (λ board. board ≡ empty_board copper) }
     {
+        let names = first_names(alloc)?;
         let mut of_nets = Vec::new(alloc);
-        of_nets.push(Vec::new(alloc))?;
-        let mut names = IndexMap::new(alloc);
-        names.insert(0, Name::of(Vec::new(alloc)))?;
+        if let Err(error) = of_nets.push(Vec::new(alloc)) {
+            drop(error);
+            drop(of_nets);
+            drop(names);
+            return Err(AllocError);
+        }
         Ok(Board {
             copper,
             names,
@@ -186,7 +208,10 @@ impl Board {
         ensures added { OnOk result (self.new ≡ with_item self.old item) }
         ensures unchanged { OnErr result (self.new ≡ self.old) }
     {
-        self.admit(&item)?;
+        if let Err(error) = self.admit(&item) {
+            drop(item);
+            return Err(error);
+        }
         Ok(self.push_admitted(item)?)
     }
 
@@ -270,7 +295,7 @@ impl Board {
         } }
     {
         if self.units[id as usize] == unit {
-            self.take_out(id);
+            drop(self.take_out(id));
         }
     }
 
@@ -534,7 +559,10 @@ fn push_slot(
     let unit = item.unit;
     let is_mark = item.what.is_mark();
     let is_note = item.what.is_note();
-    reserve_each(slots, tags, units, marks, notes, of_net)?;
+    if let Err(error) = reserve_each(slots, tags, units, marks, notes, of_net) {
+        drop(item);
+        return Err(error);
+    }
     // Nothing is refused from here on, so the item is moved once.
     slots.push_reserved(Some(item));
     tags.push_reserved(tag);

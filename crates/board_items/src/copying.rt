@@ -1,13 +1,14 @@
 //! Equal items and boards, in memory of their own.
 
-ghost use Rattle.std.specs.Prelude.{◌≡◌, IfOk, map, Vec, ℕ};
+ghost use Rattle.std.specs.Prelude.{◌≡◌, ◌++◌, ◌∷◌, [], IfOk, OnOk, None, map, nat_eq, Vec, ℕ};
+ghost use Rattle.std.specs.Map.{lookup};
 ghost use Rattle.std.specs.declared.alloc.Global.{Global};
 ghost use Rattle.board_items.specs.BoardIterators.{nets_left};
 ghost use Rattle.board_items.specs.Boards.{AreDistinct};
 
 use crate::board::Board;
 use crate::boxed::Boxed;
-use crate::item::{Hole, Item, What};
+use crate::item::{Bans, Hole, Item, What};
 use crate::parts::{Part, Parts};
 use crate::walk::BoardNets;
 use drc_io::Name;
@@ -53,12 +54,24 @@ fn copy_part(alloc: Global, part: &Part) -> Result<Part, AllocError>
     })
 }
 
+/// Puts an equal part behind the others.
+fn push_part(list: &mut SmallVec<Part, 1>, alloc: Global, part: &Part) -> Result<(), AllocError>
+    ensures { OnOk result (list.new.items ≡ list.old.items ++ part.now ∷ []) }
+{
+    let copy = copy_part(alloc, part)?;
+    list.push(copy)?;
+    Ok(())
+}
+
 fn copy_list(alloc: Global, parts: &[Part]) -> Result<SmallVec<Part, 1>, AllocError>
     ensures { IfOk result (λ copy. copy.items ≡ parts.now) }
 {
     let mut list = SmallVec::with_capacity(alloc, parts.len())?;
     for part in parts {
-        list.push(copy_part(alloc, part)?)?;
+        if let Err(error) = push_part(&mut list, alloc, part) {
+            drop(list);
+            return Err(error);
+        }
     }
     Ok(list)
 }
@@ -111,54 +124,112 @@ fn copy_parts(alloc: Global, parts: &Boxed<Parts>) -> Result<Boxed<Parts>, Alloc
     Boxed::new(alloc, parts.get().copy()?)
 }
 
+/// What a pad is with equal names.
+fn copy_pad(
+    alloc: Global,
+    number: &Boxed<Name>,
+    reference: &Boxed<Name>,
+) -> Result<What, AllocError>
+    ensures { IfOk result (λ copy. copy ≡ What.Pad number.now reference.now) }
+{
+    let number = copy_name(alloc, number)?;
+    match copy_name(alloc, reference) {
+        Ok(reference) => Ok(What::Pad { number, reference }),
+        Err(error) => {
+            drop(number);
+            Err(error)
+        }
+    }
+}
+
+/// What a rule area is with an equal name and area.
+fn copy_area(
+    alloc: Global,
+    title: &Boxed<Name>,
+    bans: Bans,
+    shape: &Boxed<Part>,
+) -> Result<What, AllocError>
+    ensures { IfOk result (λ copy. copy ≡ What.Area title.now bans shape.now) }
+{
+    let shape = Boxed::new(alloc, copy_part(alloc, shape.get())?)?;
+    match copy_name(alloc, title) {
+        Ok(title) => Ok(What::Area { title, bans, shape }),
+        Err(error) => {
+            drop(shape);
+            Err(error)
+        }
+    }
+}
+
+/// What a footprint is with an equal reference and courtyards.
+fn copy_body(
+    alloc: Global,
+    reference: &Boxed<Name>,
+    front: &Boxed<Parts>,
+    back: &Boxed<Parts>,
+    on_back: bool,
+) -> Result<What, AllocError>
+    ensures { IfOk result (λ copy. copy ≡ What.Body reference.now front.now back.now on_back) }
+{
+    let front = copy_parts(alloc, front)?;
+    let back = match copy_parts(alloc, back) {
+        Ok(back) => back,
+        Err(error) => {
+            drop(front);
+            return Err(error);
+        }
+    };
+    match copy_name(alloc, reference) {
+        Ok(reference) => Ok(What::Body {
+            reference,
+            front,
+            back,
+            on_back,
+        }),
+        Err(error) => {
+            drop(front);
+            drop(back);
+            Err(error)
+        }
+    }
+}
+
 impl What {
     /// An equal kind.
     pub(crate) fn copy(&self, alloc: Global) -> Result<What, AllocError>
         ensures { IfOk result (λ copy. copy ≡ self.now) }
     {
-        Ok(match self {
-            What::Track { width } => What::Track { width: *width },
+        match self {
+            What::Track { width } => Ok(What::Track { width: *width }),
             What::Via {
                 size,
                 drill,
                 micro,
                 blind,
-            } => What::Via {
+            } => Ok(What::Via {
                 size: *size,
                 drill: *drill,
                 micro: *micro,
                 blind: *blind,
-            },
-            What::Pad { number, reference } => What::Pad {
-                number: copy_name(alloc, number)?,
-                reference: copy_name(alloc, reference)?,
-            },
-            What::Graphic => What::Graphic,
-            What::Fill => What::Fill,
-            What::Edge { lines } => What::Edge {
+            }),
+            What::Pad { number, reference } => copy_pad(alloc, number, reference),
+            What::Graphic => Ok(What::Graphic),
+            What::Fill => Ok(What::Fill),
+            What::Edge { lines } => Ok(What::Edge {
                 lines: copy_parts(alloc, lines)?,
-            },
-            What::Area { title, bans, shape } => What::Area {
-                title: copy_name(alloc, title)?,
-                bans: *bans,
-                shape: Boxed::new(alloc, copy_part(alloc, shape.get())?)?,
-            },
+            }),
+            What::Area { title, bans, shape } => copy_area(alloc, title, *bans, shape),
             What::Body {
                 reference,
                 front,
                 back,
                 on_back,
-            } => What::Body {
-                reference: copy_name(alloc, reference)?,
-                front: copy_parts(alloc, front)?,
-                back: copy_parts(alloc, back)?,
-                on_back: *on_back,
-            },
-            What::Note { about, layer } => What::Note {
+            } => copy_body(alloc, reference, front, back, *on_back),
+            What::Note { about, layer } => Ok(What::Note {
                 about: *about,
                 layer: copy_name(alloc, layer)?,
-            },
-        })
+            }),
+        }
     }
 }
 
@@ -244,6 +315,16 @@ pub(crate) fn copy_ids(alloc: Global, of_nets: &[Vec<u32>]) -> Result<Vec<Vec<u3
     Ok(list)
 }
 
+/// Puts a net with an equal name behind the others, none of which has its number.
+fn push_net(names: &mut IndexMap<u32, Name>, net: u32, name: &Name) -> Result<(), AllocError>
+    requires { lookup (nat_eq net) names.old.entries ≡ None }
+    ensures { OnOk result (names.new.entries ≡ names.old.entries ++ (net, name.now) ∷ []) }
+{
+    let copy = name.copy()?;
+    drop(names.insert(net, copy)?);
+    Ok(())
+}
+
 /// The names of nets, no two of which have one number.
 pub(crate) fn copy_nets(
     alloc: Global,
@@ -255,7 +336,10 @@ pub(crate) fn copy_nets(
 {
     let mut names = IndexMap::with_capacity(alloc, count)?;
     for (net, name) in nets {
-        names.insert(net, name.copy()?)?;
+        if let Err(error) = push_net(&mut names, net, name) {
+            drop(names);
+            return Err(error);
+        }
     }
     Ok(names)
 }

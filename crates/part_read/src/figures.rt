@@ -248,10 +248,17 @@ pub(crate) fn draw(
     ensures { IfOk result (λ parts. parts ≡ drawn layers placement drawing.now) }
 {
     let mut list = SmallVec::new(alloc);
-    if !draw_into(alloc, layers, placement, drawing, &mut list)? {
-        return Ok(None);
+    match draw_into(alloc, layers, placement, drawing, &mut list) {
+        Ok(true) => Ok(Some(Parts::of(list))),
+        Ok(false) => {
+            drop(list);
+            Ok(None)
+        }
+        Err(error) => {
+            drop(list);
+            Err(error)
+        }
     }
-    Ok(Some(Parts::of(list)))
 }
 
 /// The raw point by which a report names a figure.

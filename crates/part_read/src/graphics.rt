@@ -125,22 +125,30 @@ fn copper_graphic(
         (copper_graphic board.now unit placement kind layer (tree_of node.entry)) }
 {
     let drawing = drawing_of(alloc, kind, node)?;
-    let net = net_of(board, element(node, b"net"))?;
+    let net = match net_of(board, element(node, b"net")) {
+        Ok(net) => net,
+        Err(error) => {
+            drop(drawing);
+            return Err(error);
+        }
+    };
     if is_ring(&drawing) {
+        drop(drawing);
         return Err(BoardError::Ring { at: place(node) });
     }
-    let Some(copper) = draw(alloc, LayerSet::of(layer), placement, &drawing)? else {
+    let at = stand(placement, first_raw_point(&drawing.figure));
+    let drawn = draw(alloc, LayerSet::of(layer), placement, &drawing);
+    drop(drawing);
+    let Some(copper) = drawn? else {
         return Err(BoardError::OutOfBoard { at: place(node) });
     };
-    let at = stand(placement, first_raw_point(&drawing.figure));
-    Ok(plain_item(
-        name_of_list(alloc, node)?,
-        unit,
-        net,
-        at,
-        copper,
-        What::Graphic,
-    ))
+    match name_of_list(alloc, node) {
+        Ok(name) => Ok(plain_item(name, unit, net, at, copper, What::Graphic)),
+        Err(_) => {
+            drop(copper);
+            Err(BoardError::OutOfMemory)
+        }
+    }
 }
 
 /// The graphic on Edge.Cuts.
@@ -158,23 +166,21 @@ fn edge_graphic(
 {
     let drawing = drawing_of(alloc, kind, node)?;
     if is_circle(&drawing.figure) {
+        drop(drawing);
         return Err(BoardError::Ring { at: place(node) });
     }
     let at = stand(placement, first_raw_point(&drawing.figure));
     let Some(lines) = draw_edge(alloc, placement, drawing)? else {
         return Err(BoardError::OutOfBoard { at: place(node) });
     };
-    let name = name_of_list(alloc, node)?;
-    Ok(plain_item(
-        name,
-        unit,
-        0,
-        at,
-        no_parts(alloc),
-        What::Edge {
-            lines: Boxed::new(alloc, lines)?,
-        },
-    ))
+    let lines = Boxed::new(alloc, lines)?;
+    match name_of_list(alloc, node) {
+        Ok(name) => Ok(plain_item(name, unit, 0, at, no_parts(alloc), What::Edge { lines })),
+        Err(_) => {
+            drop(lines);
+            Err(BoardError::OutOfMemory)
+        }
+    }
 }
 
 /// The note of a text or a dimension on copper.
@@ -182,20 +188,22 @@ fn note_of(alloc: Global, unit: u32, about: About, node: Node<'_, '_>) -> Result
     ensures { IfOk result (λ item. item ≡ note_of (name_in (tree_of node.entry)) unit about
         (name_among (element (codes "layer") (tree_of node.entry)))) }
 {
-    let name = name_of_list(alloc, node)?;
-    let layer = name_in(alloc, element(node, b"layer"))?;
+    let layer = Boxed::new(alloc, name_in(alloc, element(node, b"layer"))?)?;
     let at = RawPoint { x: 0, y: 0 };
-    Ok(plain_item(
-        name,
-        unit,
-        0,
-        at,
-        no_parts(alloc),
-        What::Note {
-            about,
-            layer: Boxed::new(alloc, layer)?,
-        },
-    ))
+    match name_of_list(alloc, node) {
+        Ok(name) => Ok(plain_item(
+            name,
+            unit,
+            0,
+            at,
+            no_parts(alloc),
+            What::Note { about, layer },
+        )),
+        Err(error) => {
+            drop(layer);
+            Err(error)
+        }
+    }
 }
 
 /// The list of one part.

@@ -1,5 +1,5 @@
 -- What the reader's values stand for.
-use Rattle.std.specs.Prelude.{ℤ, map, Option, Some, None, Result, Ok, Err}
+use Rattle.std.specs.Prelude.{◌≡◌, ◌⊎◌, ℤ, map, Option, Some, None, Result, Ok, Err}
 use Rattle.std.specs.Option.{option_map}
 use Rattle.list_read.specs.FoundNodes.{GivesUnless}
 use Rattle.plain_types.specs.declared.lengths.Length.{Length}
@@ -42,3 +42,8 @@ plain_draft d = record { number = d.number; layer = d.layer; severity = d.severi
 -- the call gives a value that stands for this answer, unless memory ran out
 abbrev pub Gives : {T A : Type 0} → (T → A) → Result T RuleError → Result A RuleError → Type 0
 Gives view result answer = GivesUnless OutOfMemory view result answer
+
+-- the call leaves what the answer is, or gives its refusal, unless memory ran out
+abbrev pub Leaves : {A T : Type 0} → Result T RuleError → A → Result A RuleError → Type 0
+Leaves (Ok _) new answer = answer ≡ Ok new
+Leaves (Err e) new answer = (e ≡ OutOfMemory) ⊎ (answer ≡ Err e)

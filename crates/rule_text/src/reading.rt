@@ -1,6 +1,6 @@
 //! The rules of a file, form by form.
 
-ghost use Rattle.std.specs.Prelude.{◌≡◌, ◌<◌, ◌+◌, length, IfOk, Ok};
+ghost use Rattle.std.specs.Prelude.{◌≡◌, ◌<◌, ◌+◌, ◌++◌, ◌∷◌, [], length, OnOk, Ok};
 ghost use Rattle.plain_types.specs.Limits.{most_text, IsInText};
 ghost use Rattle.sexpr_read.specs.TreeViews.{tree_of, trees_left};
 ghost use Rattle.cond_lang.specs.Rules.{plain_rule, plain_constraint};
@@ -9,7 +9,7 @@ ghost use Rattle.rule_text.specs.RuleForms.{clauses};
 ghost use Rattle.rule_text.specs.RulesOf.{severity_in, severity_named, is_asked, is_version, no_rules, rules_of};
 ghost use Rattle.rule_text.specs.RuleWalk.{with_layer, with_severity, with_cond, noted, constrained, with_constraint, with_clause, with_clauses, rule_by, with_rule, with_rules};
 ghost use Rattle.rule_text.specs.ShortRuleTrees.{AllShort, IsShort};
-ghost use Rattle.rule_text.specs.RuleValues.{plain_draft, plain_lists, plain_rules, Gives};
+ghost use Rattle.rule_text.specs.RuleValues.{plain_draft, plain_lists, plain_rules, Gives, Leaves};
 
 use crate::conds::cond_in;
 use crate::constraints::{constraint_in, has_kind, is_asked, kind_named};
@@ -24,7 +24,8 @@ use cond_lang::{Constraint, Constraints, Rule, RuleLayer, Severity};
 use drc_io::Name;
 use list_read::{has_head, name_from, place};
 use sexpr_read::{Children, Node};
-use std::alloc::Global;
+use std::alloc::{AllocError, Global};
+use std::mem::replace;
 
 // ---- clauses
 
@@ -56,157 +57,133 @@ fn severity_in(clause: Node<'_, '_>) -> Result<Severity, RuleError>
     }
 }
 
+/// Takes the layer of a clause. Of two layers the first counts.
 #[tactic(auto, unfolding(crate::specs::RuleWalk::with_layer))]
-fn with_layer(draft: Draft, clause: Node<'_, '_>) -> Result<Draft, RuleError>
-    ensures { Gives plain_draft result (with_layer (plain_draft draft) (tree_of clause.entry)) }
+fn take_layer(draft: &mut Draft, clause: Node<'_, '_>) -> Result<(), RuleError>
+    ensures { Leaves result (plain_draft draft.new)
+        (with_layer (plain_draft draft.old) (tree_of clause.entry)) }
 {
     if draft.layer.is_some() {
-        return Ok(draft);
+        return Ok(());
     }
-    let mut draft = draft;
     draft.layer = Some(layer_in(clause)?);
-    Ok(draft)
+    Ok(())
 }
 
+/// Takes the severity of a clause. Of two the first counts.
 #[tactic(auto, unfolding(crate::specs::RuleWalk::with_severity))]
-fn with_severity(draft: Draft, clause: Node<'_, '_>) -> Result<Draft, RuleError>
-    ensures { Gives plain_draft result (with_severity (plain_draft draft) (tree_of clause.entry)) }
+fn take_severity(draft: &mut Draft, clause: Node<'_, '_>) -> Result<(), RuleError>
+    ensures { Leaves result (plain_draft draft.new)
+        (with_severity (plain_draft draft.old) (tree_of clause.entry)) }
 {
     if draft.severity.is_some() {
-        return Ok(draft);
+        return Ok(());
     }
-    let mut draft = draft;
     draft.severity = Some(severity_in(clause)?);
-    Ok(draft)
+    Ok(())
 }
 
-/// Where no condition is asked, it is passed over.
+/// Takes the condition of a clause. Where no condition is asked, it is passed over.
 #[tactic(auto, unfolding(crate::specs::RuleWalk::with_cond))]
-fn with_cond(
+fn take_cond(
     alloc: Global,
     asked: bool,
-    draft: Draft,
+    draft: &mut Draft,
     clause: Node<'_, '_>,
-) -> Result<Draft, RuleError>
+) -> Result<(), RuleError>
     requires { IsShort (tree_of clause) }
-    ensures { Gives plain_draft result
-        (with_cond asked (plain_draft draft) (tree_of clause.entry)) }
+    ensures { Leaves result (plain_draft draft.new)
+        (with_cond asked (plain_draft draft.old) (tree_of clause.entry)) }
 {
     if !asked || draft.cond.is_some() {
-        return Ok(draft);
+        return Ok(());
     }
-    let atom = match atom_at(clause) {
-        Ok(atom) => atom,
-        Err(error) => {
-            drop(draft);
-            return Err(error);
-        }
-    };
-    match cond_in(alloc, atom) {
-        Ok(cond) => {
-            let mut draft = draft;
-            drop(draft.cond.replace(cond));
-            Ok(draft)
-        }
-        Err(error) => {
-            drop(draft);
-            Err(error)
-        }
-    }
+    let atom = atom_at(clause)?;
+    let cond = cond_in(alloc, atom)?;
+    drop(draft.cond.replace(cond));
+    Ok(())
 }
 
 /// Notes a constraint that no rule may have.
-fn with_note(alloc: Global, draft: Draft, name: Node<'_, '_>) -> Result<Draft, RuleError>
-    ensures { Gives plain_draft result (Ok (noted (plain_draft draft) (tree_of name.entry))) }
+fn take_note(alloc: Global, draft: &mut Draft, name: Node<'_, '_>) -> Result<(), RuleError>
+    ensures { Leaves result (plain_draft draft.new)
+        (Ok (noted (plain_draft draft.old) (tree_of name.entry))) }
 {
-    let mut draft = draft;
     let constraint = name_from(alloc, name)?;
     draft.notes.push(RuleNote {
         rule: draft.number,
         constraint,
     })?;
-    Ok(draft)
+    Ok(())
 }
 
 /// Adds a constraint.
-fn with_more(draft: Draft, constraint: Constraint) -> Result<Draft, RuleError>
-    ensures { Gives plain_draft result
-        (Ok (constrained (plain_draft draft) (plain_constraint constraint))) }
+fn take_more(draft: &mut Draft, constraint: Constraint) -> Result<(), RuleError>
+    ensures { Leaves result (plain_draft draft.new)
+        (Ok (constrained (plain_draft draft.old) (plain_constraint constraint))) }
 {
-    let mut draft = draft;
     draft.constraints.push(constraint)?;
-    Ok(draft)
+    Ok(())
 }
 
-/// Of two constraints of one kind the first counts.
+/// Takes the constraint of a clause. Of two of one kind the first counts.
 #[tactic(auto, unfolding(crate::specs::RuleWalk::with_constraint))]
-fn with_constraint(alloc: Global, draft: Draft, clause: Node<'_, '_>) -> Result<Draft, RuleError>
+fn take_constraint(alloc: Global, draft: &mut Draft, clause: Node<'_, '_>) -> Result<(), RuleError>
     requires { IsShort (tree_of clause) }
-    ensures { Gives plain_draft result
-        (with_constraint (plain_draft draft) (tree_of clause.entry)) }
+    ensures { Leaves result (plain_draft draft.new)
+        (with_constraint (plain_draft draft.old) (tree_of clause.entry)) }
 {
-    let name = match name_at(clause) {
-        Ok(name) => name,
-        Err(error) => {
-            drop(draft);
-            return Err(error);
-        }
-    };
+    let name = name_at(clause)?;
     let Some(kind) = kind_named(name) else {
-        return with_note(alloc, draft, name);
+        return take_note(alloc, draft, name);
     };
     if has_kind(kind, &draft.constraints) {
-        return Ok(draft);
+        return Ok(());
     }
-    match constraint_in(alloc, kind, clause) {
-        Ok(constraint) => with_more(draft, constraint),
-        Err(error) => {
-            drop(draft);
-            Err(error)
-        }
-    }
+    let constraint = constraint_in(alloc, kind, clause)?;
+    take_more(draft, constraint)
 }
 
+/// Takes what a clause says.
 #[tactic(auto, unfolding(crate::specs::RuleWalk::with_clause))]
-fn with_clause(
+fn take_clause(
     alloc: Global,
     asked: bool,
-    draft: Draft,
+    draft: &mut Draft,
     clause: Node<'_, '_>,
-) -> Result<Draft, RuleError>
+) -> Result<(), RuleError>
     requires { IsShort (tree_of clause) }
-    ensures { Gives plain_draft result
-        (with_clause asked (plain_draft draft) (tree_of clause.entry)) }
+    ensures { Leaves result (plain_draft draft.new)
+        (with_clause asked (plain_draft draft.old) (tree_of clause.entry)) }
 {
     if has_head(clause, b"layer") {
-        with_layer(draft, clause)
+        take_layer(draft, clause)
     } else if has_head(clause, b"severity") {
-        with_severity(draft, clause)
+        take_severity(draft, clause)
     } else if has_head(clause, b"condition") {
-        with_cond(alloc, asked, draft, clause)
+        take_cond(alloc, asked, draft, clause)
     } else if has_head(clause, b"constraint") {
-        with_constraint(alloc, draft, clause)
+        take_constraint(alloc, draft, clause)
     } else {
         Err(bad(clause))
     }
 }
 
-/// What all clauses of a rule say.
+/// Takes what all clauses of a rule say.
 #[tactic(auto, using(crate::proofs::Shortness::clauses_short, crate::proofs::Shortness::first_short, crate::proofs::Shortness::rest_short), unfolding(crate::specs::RuleWalk::with_clauses))]
-fn with_clauses(alloc: Global, draft: Draft, form: Node<'_, '_>) -> Result<Draft, RuleError>
+fn take_clauses(alloc: Global, draft: &mut Draft, form: Node<'_, '_>) -> Result<(), RuleError>
     requires { IsShort (tree_of form) }
-    ensures { Gives plain_draft result
+    ensures { Leaves result (plain_draft draft.new)
         (with_clauses
         (is_asked (clauses (tree_of form.entry)))
-        (plain_draft draft)
+        (plain_draft draft.old)
         (clauses (tree_of form.entry))) }
 {
     let asked = is_asked(form);
-    let mut draft = draft;
     for clause in clauses(form) {
-        draft = with_clause(alloc, asked, draft, clause)?;
+        take_clause(alloc, asked, draft, clause)?;
     }
-    Ok(draft)
+    Ok(())
 }
 
 // ---- forms
@@ -228,31 +205,53 @@ fn rule_by(name: Name, draft: Draft) -> (Rule, Vec<RuleNote>)
     (rule, draft.notes)
 }
 
-/// `(rule NAME CLAUSE ..)`.
+/// Puts the rule of a draft behind the others, with the notes up to here.
+fn add_drafted(lists: &mut Lists, name: Name, draft: Draft) -> Result<(), AllocError>
+    ensures { OnOk result (plain_lists lists.new ≡ record {
+      rules = (plain_lists lists.old).rules ++ rule_by name (plain_draft draft) ∷ [];
+      notes = (plain_draft draft).notes;
+    }) }
+{
+    let (rule, notes) = rule_by(name, draft);
+    drop(replace(&mut lists.notes, notes));
+    lists.rules.push(rule)?;
+    Ok(())
+}
+
+/// Adds `(rule NAME CLAUSE ..)`.
 #[tactic(auto, unfolding(crate::specs::RuleWalk::with_rule))]
-fn with_rule(alloc: Global, lists: Lists, form: Node<'_, '_>) -> Result<Lists, RuleError>
+fn add_rule(alloc: Global, lists: &mut Lists, form: Node<'_, '_>) -> Result<(), RuleError>
     requires short { IsShort (tree_of form) }
-    requires few { length lists.rules.items < most_text }
-    ensures read { Gives plain_lists result (with_rule (plain_lists lists) (tree_of form.entry)) }
-    ensures grown { IfOk result (λ more. length more.rules.items ≡ length lists.rules.items + 1) }
+    requires few { length lists.old.rules.items < most_text }
+    ensures read { Leaves result (plain_lists lists.new)
+        (with_rule (plain_lists lists.old) (tree_of form.entry)) }
+    ensures grown { OnOk result
+        (length lists.new.rules.items ≡ length lists.old.rules.items + 1) }
 {
     if !has_head(form, b"rule") {
         return Err(bad(form));
     }
-    let name = name_from(alloc, name_at(form)?)?;
-    let draft = Draft {
-        number: lists.rules.len() as u32,
+    let atom = name_at(form)?;
+    let number = lists.rules.len() as u32;
+    let mut draft = Draft {
+        number,
         layer: None,
         severity: None,
         cond: None,
         constraints: Vec::new(alloc),
-        notes: lists.notes,
+        notes: replace(&mut lists.notes, Vec::new(alloc)),
     };
-    let draft = with_clauses(alloc, draft, form)?;
-    let (rule, notes) = rule_by(name, draft);
-    let mut rules = lists.rules;
-    rules.push(rule)?;
-    Ok(Lists { rules, notes })
+    if let Err(error) = take_clauses(alloc, &mut draft, form) {
+        drop(draft);
+        return Err(error);
+    }
+    match name_from(alloc, atom) {
+        Ok(name) => Ok(add_drafted(lists, name, draft)?),
+        Err(_) => {
+            drop(draft);
+            Err(RuleError::OutOfMemory)
+        }
+    }
 }
 
 /// The rules of the forms that are left.
@@ -267,7 +266,10 @@ fn with_rules(alloc: Global, forms: Children<'_, '_>) -> Result<Lists, RuleError
         notes: Vec::new(alloc),
     };
     for form in forms {
-        lists = with_rule(alloc, lists, form)?;
+        if let Err(error) = add_rule(alloc, &mut lists, form) {
+            drop(lists);
+            return Err(error);
+        }
     }
     Ok(lists)
 }

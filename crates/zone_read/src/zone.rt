@@ -319,6 +319,7 @@ fn fill_in_capacity(
     }
     let fill = fill_on(alloc, owner.unit, owner.net, node, layer, list)?;
     if !has_capacity_after(found, owner.board, owner.unit) {
+        drop(fill);
         return Err(BoardError::TooMany { at: place(list) });
     }
     Ok(fill)
@@ -367,7 +368,10 @@ fn fills_of(alloc: Global, owner: &Owner<'_>, node: Node<'_, '_>) -> Result<Vec<
 {
     let mut fills = Vec::new(alloc);
     for part in node.children() {
-        take_fill(alloc, owner, node, part, &mut fills)?;
+        if let Err(error) = take_fill(alloc, owner, node, part, &mut fills) {
+            drop(fills);
+            return Err(error);
+        }
     }
     Ok(fills)
 }
@@ -393,7 +397,10 @@ pub fn read_zone(
     let title = title_of(alloc, node)?;
     let owner = Owner { board, unit, net };
     match element(node, b"keepout") {
-        None => fills_of(alloc, &owner, node),
+        None => {
+            drop(title);
+            fills_of(alloc, &owner, node)
+        }
         Some(keepout) => {
             let area = rule_area(alloc, &owner, node, layers, title, keepout)?;
             Ok(one(alloc, area)?)
