@@ -33,6 +33,22 @@ WANTED = {
 for gone in ('crates/low/src/told.rt', 'crates/low/proofs/front/told/Answers.antt'):
     del WANTED[gone]
 
+# A module of definitions, one definition of which has the name of another crate's.
+MODULE = {
+    'crates/low/specs/Lib.antt': 'pub mod Facts\n',
+    'crates/low/specs/Facts.antt': '-- `IsFact` is a fact\npub record IsFact : Type 0 where\n',
+    'crates/high/src/lib.rt': '//! `low/Facts` and `IsFact`.\nghost use Rattle.low.specs.Facts.{IsFact, other};\n',
+    'crates/other/src/lib.rt': 'struct IsFact;\n',
+    'docs/PAGE.md': '`low/Facts` has facts.\n',
+}
+OTHER = {
+    'crates/low/specs/Lib.antt': 'pub mod Claims\n',
+    'crates/low/specs/Claims.antt': '-- `IsClaim` is a fact\npub record IsClaim : Type 0 where\n',
+    'crates/high/src/lib.rt': '//! `low/Claims` and `IsClaim`.\nghost use Rattle.low.specs.Claims.{IsClaim, other};\n',
+    'crates/other/src/lib.rt': 'struct IsFact;\n',
+    'docs/PAGE.md': '`low/Claims` has facts.\n',
+}
+
 
 class Copy:
     """a repository in a folder of its own, as it begins"""
@@ -89,3 +105,18 @@ def all_of(tries):
         tries.same('as it was', copy.texts(), FILES)
         tries.same('names that change places', copy.rename('told said low\nsaid told low\n')[0], 0)
         tries.holds('both', copy.texts()['crates/low/src/lib.rt'], 'mod said;\npub fn said(n: u32) -> u32 { said::told(n')
+    with tempfile.TemporaryDirectory() as path:
+        copy = Copy(os.path.realpath(path))
+        for name, text in MODULE.items():
+            copy.file(name, text)
+        for table, wanted in (
+                ('low/None Claims\n', 'line 1: low has no module None\n'), ('none/Facts Claims\n', 'line 1: none is no crate\n'), ('low/Facts Lib low\n', 'line 1: it is CRATE/MODULE NEW, or CRATE/MODULE.NAME NEW\n'),
+                ('low/Facts.IsNone IsClaim\n', 'low/Facts has no IsNone\n'), ('IsFact IsClaim =none\n', 'line 1: none is no crate\n')):
+            tries.same('a table of modules that is refused: ' + table, copy.rename(table), (1, wanted))
+        tries.same('a table of modules', copy.rename('low/Facts Claims\nlow/Facts.IsFact IsClaim\n')[0], 0)
+        found = copy.texts()
+        for name, text in OTHER.items():
+            tries.same('a module renamed: ' + name, found.get(name), text)
+        tries.true('the module is moved', 'crates/low/specs/Facts.antt' not in found)
+        tries.same('a table of one crate', copy.rename('IsFact IsClaim =other\n')[0], 0)
+        tries.same('in one crate', copy.texts()['crates/other/src/lib.rt'], 'struct IsClaim;\n')
