@@ -1,6 +1,13 @@
-"""The cases of crates/drc_cases as data, for tools/test: docs/CASES.md says how they are written."""
+#!/usr/bin/env python3
+"""The cases of crates/drc_cases as data, for tools/test: docs/CASES.md says how they are written.
+
+Run as tools/cases.py it writes crates/drc_cases/stdout, which has a line for each case: after one was added, renamed or deleted.
+"""
+import os
 import re
 import shlex
+
+CRATE = os.path.join(os.path.dirname(os.path.dirname(os.path.abspath(__file__))), 'crates', 'drc_cases')
 
 ESCAPE = re.compile(rb'\\(?:x([0-9a-f]{2})|(.))|\$([A-Za-z0-9_]+)', re.S)
 PLAIN = {b'n': b'\n', b'r': b'\r', b't': b'\t', b's': b' ', b'\\': b'\\', b'$': b'$'}
@@ -71,3 +78,20 @@ def read_cases(path):
         elif word in (b'take', b'fail-read', b'fail-write'):
             cases[-1].limited = True
     return [case for case in cases if case.status is not None and not hasattr(case, 'limited')]
+
+
+def names_in(path):
+    with open(path, encoding='utf-8') as file:
+        return [line[5:] for line in file.read().split('\n') if line.startswith('case ')]
+
+
+def printed():
+    """what the cases are to print: each of them, in the order of their files, and how many they are"""
+    with open(os.path.join(CRATE, 'args'), encoding='utf-8') as file:
+        names = [name for words in file.read().split() for name in names_in(os.path.join(CRATE, 'data', words))]
+    return [name + ' ok' for name in names] + ['%d ok, 0 differ' % len(names)]
+
+
+if __name__ == '__main__':
+    with open(os.path.join(CRATE, 'stdout'), 'w', encoding='utf-8') as stdout:
+        stdout.write('\n'.join(printed()) + '\n')

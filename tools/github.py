@@ -19,9 +19,9 @@ def annotation(word, file, line, column, title, message):
     return '::%s file=%s,line=%d,col=%d,title=%s::%s' % (word, escaped(file, ':,'), line, column, escaped(title, ':,'), escaped(message))
 
 
-def annotations(verdicts):
-    """the lines of annotations, ten at most"""
-    told = []
+def annotations(verdicts, troubles=()):
+    """the lines of annotations, ten at most; troubles are what kept a board from being checked"""
+    told = ['::error title=drc::%s' % escaped(trouble.translate(CONTROL)) for trouble in troubles]
     for verdict in verdicts:
         result = verdict.result
         for fault in result.fault_data() or ([result.refusal] if result.refusal else []):

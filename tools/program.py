@@ -30,7 +30,7 @@ def found(asked=None):
     on_path = shutil.which('drc_cli')
     if on_path:
         return on_path
-    raise Missing('drc_cli is not built: ./drc BOARD proves and builds it once, which takes hours; or name one by --program FILE or $DRC')
+    raise Missing('drc_cli is not built: ./drc BOARD proves and builds it once, which takes an hour or more; or name one by --program FILE or $DRC')
 
 
 def checksum(name):

@@ -6,7 +6,7 @@
 - doc: a comment of a function that says nothing alone, as it begins with "The same" or "As `".
 - module: a name of a module of definitions that stands in several crates.
 - In the documents: links and paths that lead nowhere, and names `CRATE::NAME` that no crate has.
-- sentence: sentences of more than 40 words in the documents that people read first; of each document their number.
+- sentence: sentences of more than 40 words in the documents, but for the table of contracts; of each document their number.
 
 What was so when this was written is listed in tools/style.txt. What is not listed there is told with its place, and so is what is
 listed and no longer so; the status is 1 then. --shrink takes what is no longer so off the list, and adds nothing to it. --list
@@ -25,7 +25,8 @@ import sources
 LISTED = 'tools/style.txt'
 WIDEST = 100
 MOST_WORDS = 40
-PLAIN = ('README.md', 'CONTRIBUTING.md', 'docs/ARCHITECTURE.md', 'docs/FORMATS.md', 'docs/PROVED.md')
+# Its sentences are the comments of the calls.
+WRITTEN = 'docs/CONTRACTS.md'
 FOLDERS = r'(?:crates|docs|tools|bench|\.ci|\.github)'
 
 
@@ -107,7 +108,7 @@ def dead_words():
                 file = os.path.normpath(os.path.join(os.path.dirname(path), file)) if file else path
                 if not is_there(file) or (anchor and file.endswith('.md') and anchor not in anchors(sources.read(file))):
                     yield 'link %s %s' % (path, link), 1, '%s:%d: the link %s leads nowhere' % (path, number, link)
-            if path != 'docs/CONTRACTS.md':
+            if path != WRITTEN:
                 for word in re.findall(r'`([^`\s]+)`', line):
                     if leads_somewhere(word, crates) is False:
                         yield 'path %s %s' % (path, word), 1, '%s:%d: %s is not there' % (path, number, word)
@@ -135,8 +136,8 @@ def blocks(text):
 
 def long_sentences():
     """what stands in backticks is one word"""
-    for path in PLAIN:
-        if not is_there(path):
+    for path in documents():
+        if path == WRITTEN:
             continue
         for line, block in blocks(sources.read(path)):
             for sentence in re.split(r'(?<=[.?!])\s+(?=[A-Z([*`])', re.sub(r'`[^`]*`', '`X`', block)):

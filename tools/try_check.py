@@ -128,6 +128,7 @@ def table(folder):
         ('many of a kind', said('many.kicad_pcb'), 1, ['5 more of short; --all shows them\n']),
         ('an environment of GitHub', said('amp.kicad_pcb', env={'GITHUB_ACTIONS': 'true', 'GITHUB_STEP_SUMMARY': os.path.join(folder.path, 'summary.md')}), 1, [
             '::error file=amp.kicad_pcb,line=19,col=5,title=clearance::clearance on F.Cu: Pad 2 [/LED] of R1 | Via [GND]: needs 0.2 mm, has 0.15 mm']),
+        ('a file that is not there, on GitHub', said('nope.kicad_pcb', env={'GITHUB_ACTIONS': 'true', 'GITHUB_STEP_SUMMARY': ''}), 4, ['::error title=drc::nope.kicad_pcb: No such file or directory\n']),
     ]
 
 
@@ -339,6 +340,10 @@ def contained(tries, folder):
     os.chmod(folder.file('copy/crates/drc_cli/out/drc_cli', PROGRAM), 0o755)
     done = subprocess.run([build, engine], capture_output=True, text=True, check=False)
     tries.same('an image', (done.returncode, done.stdout, done.stderr), (0, 'build --file --tag drc\n./Containerfile\n./prefix/bin/drc-check\n./prefix/bin/drc_cli\n', ''))
+    # A user of the image's own could write no file into the folder of boards.
+    with open(os.path.join(copy, 'tools/container/Containerfile'), encoding='utf-8') as file:
+        steps = [line.split(' ')[0] for line in file if line.strip() and not line.startswith('#')]
+    tries.same('the steps of the image', steps, ['FROM', 'COPY', 'WORKDIR', 'ENTRYPOINT'])
 
 
 def all_of(tries):

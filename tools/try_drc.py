@@ -97,7 +97,7 @@ def made(tries, clone):
     tries.same('a program that is made', (status, out), (0, 'report 0\n'))
     tries.same('the call of rt', calls, ['drc_cli all test --jobs 2'])
     tries.same('what is said meanwhile', errors, [
-        'drc: the program is proved and built first, once: 3 crates, 2 at once; all sources are read before the first proof', 'drc: proving low', 'drc: proved low, 2 left',
+        'drc: the program is proved and built first, once, which takes an hour or more: 3 crates, 2 at once; all sources are read before the first proof', 'drc: proving low', 'drc: proved low, 2 left',
         'drc: proving middle', 'drc: proved middle, 1 left', 'drc: proved drc_cli, 0 left', ''])
     folder = os.path.join(clone.path, 'crates/drc_cli/out')
     tries.same('what stands beside it', sorted(os.listdir(folder)), ['drc.log', 'drc_cli', 'drc_cli.made'])

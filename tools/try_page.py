@@ -47,6 +47,15 @@ EXAMPLE = '''
   same('a layer steps back', document.querySelectorAll('.dim').length, 1);
   key('Escape');
   same('whole board', near(box[2], data.box[2], 0), true);
+  // the whole board stands beside the list of layers, from the back too
+  const beside = () => {
+    const [x, y, w] = data.box, to = at => svg.getBoundingClientRect().left + svg.clientWidth * (back ? 1 - (at - seen[0]) / seen[2] : (at - seen[0]) / seen[2]);
+    return [Math.min(to(x), to(x + w)) >= svg.getBoundingClientRect().left - 1, Math.max(to(x), to(x + w)) <= document.getElementById('layers').getBoundingClientRect().left];
+  };
+  same('beside the layers', [panel.open, beside()], [true, [true, true]]);
+  key('f'); same('beside the layers from the back', beside(), [true, true]); key('f');
+  panel.open = false; await later(); same('without the layers', near(seen[0] + seen[2] / 2, data.box[0] + data.box[2] / 2, 1e-9), true);
+  panel.open = true; await later();
   document.querySelector('#list a').click(); await later();
   same('gone to again', seen[2] < 20, true);
   // a resize changes what is shown and not what is wanted
@@ -67,6 +76,7 @@ EXAMPLE = '''
   button('clearance').click(); same('by kind', entries().filter(to => to.startsWith('#row')), ['#row-0-0', '#row-0-2']); button('clearance').click();
   button('by shortfall').click(); same('by shortfall', entries().slice(0, 3), ['#row-0-0', '#row-0-2', '#row-0-1']); button('by shortfall').click();
   follow('#net-0-0'); await later(); same('links of a net', document.querySelectorAll('.link.chosen').length, 2);
+  same('no farther than the board', Math.max(box[2], box[3]) <= 1.001 * Math.max(data.box[2], data.box[3]), true);
   follow('#note-0-0'); await later(); same('a note', document.querySelectorAll('#picked > g').length, 1);
   same('copper', copper_at(110.9125, 106.25), ['Via [GND] on F.Cu..B.Cu, 0.8 mm across', 'Zone [GND] on B.Cu']);
   same('a track', copper_at(114, 104).filter(name => name.startsWith('Track')), ['Track [GND] on F.Cu, 0.25 mm wide']);
@@ -100,7 +110,7 @@ SCRIPT = '''
   same('what went', entries().filter(to => to.startsWith('#went')), ['#went-1-0']);
   follow('#went-1-0'); await later(); same('gone', chosen(), '#went-1-0');
   show(5);
-  same('clean', document.querySelector('#list .clean').textContent, 'No violations, no open nets');
+  same('clean', document.querySelector('#list .clean').textContent, 'No violations, no unconnected nets');
   show(3); same('refused', document.querySelector('#list .refused').textContent, 'command 3 refused: PartOfFootprint (3)');
   location.hash = '#row-0-1'; await later(); same('another state by a link', [now, chosen()], [0, '#row-0-1']);
 '''

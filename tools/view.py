@@ -141,7 +141,7 @@ class Picture:
     def switches(self, refused):
         """the layers as the page switches them, from the highest: id, name, color, and whether it is on at first; of a refused board nothing was checked"""
         layers = [('layer%d' % k, layer, COLORS.get(layer, '#888'), layer not in OFF_AT_FIRST) for k, layer in enumerate(self.layers())][::-1]
-        told = [('links', 'open links', '#00f8ff', True), ('marks', 'rows', '#ff5f6d', True), ('notes', 'not checked', '#9aa3b0', True)]
+        told = [('links', 'ratsnest', '#00f8ff', True), ('marks', 'violations', '#ff5f6d', True), ('notes', 'not checked', '#9aa3b0', True)]
         if refused:
             told = [('marks', 'in the way', '#ff5f6d', True)]
         return [('references', 'references', '#f2eda1', True)] + layers + told

@@ -17,6 +17,7 @@ pub enum Fault {
 }
 
 impl Fault {
+    /// What is printed of it, behind the file and the line.
     fn message(self) -> &'static str {
         match self {
             Fault::Misplaced =>

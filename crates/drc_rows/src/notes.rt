@@ -24,7 +24,7 @@ fn reference_in(item: &Item) -> &[u8]
     }
 }
 
-/// The reference of the footprint, if there is one.
+/// The reference of the footprint, or the empty text where there is no footprint.
 fn reference_of(body: Option<&Item>) -> &[u8]
     ensures { result.now ≡ reference_of (option_copied body.entry) }
 {

@@ -118,7 +118,7 @@ fn push_source<W: Sink>(
     }
 }
 
-/// Puts into the buffer what asks for what a row says.
+/// Appends to the buffer where the value of a row comes from: ` | ` and the rule, `local` or `default`.
 fn push_asked<W: Sink>(
     buffer: &mut ReportBuffer,
     out: &mut W,

@@ -129,7 +129,7 @@ fn at(place: Option<u32>) -> &'static [u8]
     }
 }
 
-/// The place in a condition, where there is a place.
+/// The place in a condition of a rule, which a refusal has only where it has a place in the text.
 fn inner_behind(place: Option<u32>, inner: Option<u32>) -> Option<u32>
     ensures { result ≡ inner_behind place inner }
 {

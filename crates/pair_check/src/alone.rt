@@ -45,7 +45,7 @@ fn forbids_none(view: &CheckView, kind: Kind) -> bool
     !some_asks(view.rules, kind)
 }
 
-/// The lengths that are enough on this board, or nothing where a rule asks something of single items.
+/// The lengths from which on a single item of this board breaks nothing; `None` where a rule asks something of single items.
 pub fn enough_alone(view: &CheckView) -> Option<Enough>
     ensures { IfSome result (AreEnoughAlone (deciders_of view.now)) }
 {
@@ -60,7 +60,7 @@ pub fn enough_alone(view: &CheckView) -> Option<Enough>
     })
 }
 
-/// Whether the length that the kind limits, if the item has one, is at least so much.
+/// True only where the length that the kind limits is at least `least`, or the item has no such length.
 #[inline(always)]
 fn has_enough(kind: Kind, least: &Nm, item: &Item) -> bool
     ensures { result ≡ true → (n : ℤ) → length_of kind item.now ≡ Some n → least.now ≤ℤ n }

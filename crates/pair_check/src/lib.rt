@@ -42,6 +42,7 @@ fn boards_cross<'a>() {
     crosses_threads::<&'a Board>();
 }
 
+/// The facts that a view lends may be shared by threads.
 fn facts_cross<'a>() {
     crosses_threads::<&'a FactsById>();
 }

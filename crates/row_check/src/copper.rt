@@ -54,6 +54,7 @@ fn is_of_copper(kind: Kind) -> bool
     }
 }
 
+/// The length, or the least value of the constraint where that is more and its kind is one of copper.
 fn raised_by(n: Length, constraint: &Constraint) -> Length
     ensures old { n.nm ≤ℤ result.nm }
     ensures asked { AsksAtMost result.nm (plain_constraint constraint.now) }

@@ -41,6 +41,7 @@ fn raised_to(n: Length, nm: Nm) -> Length
     raised(n, Length { nm })
 }
 
+/// The length, or the greatest of the board's least distances where that is more.
 fn raised_by_mins(n: Length, mins: &Mins) -> Length
     ensures { IsRaised n.nm (least_distances (mins_of mins.now)) result.nm }
 {
@@ -50,6 +51,7 @@ fn raised_by_mins(n: Length, mins: &Mins) -> Length
     raised_to(with_holes, mins.min_copper_edge_clearance)
 }
 
+/// The greatest clearance of all net classes.
 fn greatest_class(classes: &Classes) -> Length
     ensures { result.nm ≡ greatest_clearance classes.now }
 {
