@@ -22,6 +22,7 @@ struct Run {
 }
 
 /// The number of the digits at the front, unless there are more than the most.
+#[inline(always)]
 fn leading(text: &[u8], most: usize) -> Option<Run>
     requires { most ≤ 8 }
     ensures number { IfSome result (λ f. f.n ≡ number (prefix_digits text.now)) }
@@ -43,6 +44,7 @@ fn leading(text: &[u8], most: usize) -> Option<Run>
 }
 
 /// So many nanometres as a digit counts behind so many digits.
+#[inline(always)]
 fn place(digits: usize) -> u64
     requires { digits ≤ 6 }
     ensures { result * 10 ^ digits ≡ 1000000 }
@@ -59,6 +61,7 @@ fn place(digits: usize) -> u64
 }
 
 /// The number of the digits behind a point, where nothing follows them, or of nothing.
+#[inline(always)]
 fn fraction(text: &[u8]) -> Option<Run>
     ensures number { IfSome result (λ f. f.n ≡ number (point_digits text.now)) }
     ensures count { IfSome result (λ f. f.count ≡ length (point_digits text.now)) }
@@ -78,6 +81,7 @@ fn fraction(text: &[u8]) -> Option<Run>
 }
 
 /// The number of a text of the usual spelling. Every other text is left to the general way.
+#[inline(always)]
 pub(crate) fn short(text: &[u8]) -> Option<Usual>
     ensures { IfSome result (λ s. IsShortDecimal text.now s.negative s.nanometres) }
 {

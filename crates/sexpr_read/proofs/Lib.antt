@@ -14,4 +14,5 @@ pub mod Lines
 pub mod FormFaults
 pub mod Ordered
 pub mod Escapes
+pub mod LaneRuns
 pub mod Texts

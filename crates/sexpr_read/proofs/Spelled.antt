@@ -1,10 +1,11 @@
 -- Lemmas on the parts of a text: what stands past its end, and content that grows at its end.
-use Rattle.std.proofs.Common.{◌≡◌, ℕ, suc, ◌≤◌, ◌∙◌, true, false, List, length, refl, ap}
+use Rattle.std.proofs.Common.{◌≡◌, ℕ, zero, suc, ◌+◌, ◌<◌, ◌≤◌, ◌∙◌, true, false, List, length, refl, sym, ap, subst, arith, inl, inr}
 use Rattle.std.proofs.Math.ListN.{get_or-eq_default}
+use Rattle.std.proofs.Math.Nat.{eq-or-lt_of_le}
 use Rattle.sexpr_read.specs.declared.bytes.ByteClass.{ByteClass}
 use Rattle.sexpr_read.specs.declared.bytes.ByteClass.TheVariants.{Space, Open, Close, Quote, Backslash, Plain}
 use Rattle.sexpr_read.specs.ByteClasses.{class_of, sign_of, is_word, is_itself}
-use Rattle.sexpr_read.specs.Spelling.{IsContent, empty, itself, escape}
+use Rattle.sexpr_read.specs.Spelling.{IsSpaceBetween, IsContent, empty, itself, escape}
 
 pub past_end : (text : List ℕ) (p : ℕ) → length text ≤ p → sign_of text p ≡ Space
 unfolding sign_of class_of
@@ -39,3 +40,16 @@ pub and_escape : (sign : ℕ → ByteClass) {a b : ℕ} → IsContent sign a b �
 and_escape sign empty e = escape e empty
 and_escape sign (itself f more) e = itself f (and_escape sign more e)
 and_escape sign (escape f more) e = escape f (and_escape sign more e)
+
+-- bytes that stand for themselves are content
+pub all_itself : (sign : ℕ → ByteClass) (n a b : ℕ) → b ≡ a + n → ((i : ℕ) → a ≤ i → i < b → is_itself (sign i) ≡ true) → IsContent sign a b
+all_itself sign zero a b e each = subst (IsContent sign a) (sym (omega (arith, e))) empty
+all_itself sign (suc n) a b e each =
+    itself (each a (omega arith) (omega (arith, e))) (all_itself sign n (suc a) b (omega (arith, e)) (λ i from to. each i (omega arith) to))
+
+-- space before a gap is part of it
+pub gap_with : (sign : ℕ → ByteClass) (a b : ℕ) → sign a ≡ Space → IsSpaceBetween sign (a + 1) b → IsSpaceBetween sign a b
+gap_with sign a b space gap = record {
+  ordered = omega (arith, gap.ordered);
+  blank = λ i from to. elim (eq-or-lt_of_le from) [ inl same ↦ subst (λ j. sign j ≡ Space) same space | inr more ↦ gap.blank i (omega arith) to ];
+}

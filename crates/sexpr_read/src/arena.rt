@@ -1,9 +1,10 @@
 //! The cells of a text, each a list or an atom, in the order in which they are read.
 
-ghost use Rattle.std.specs.Prelude.{◌≡◌, ◌+◌, ◌-◌, ◌<◌, ◌≤◌, ◌^◌, ◌∷◌, ◌++◌, [], IfOk, OnOk, vec_len, slice_set, slice_index_or, IsTrue, ◌↔◌};
+ghost use Rattle.std.specs.Prelude.{◌≡◌, ◌+◌, ◌-◌, ◌<◌, ◌≤◌, ◌^◌, ◌∷◌, ◌++◌, [], length, IfOk, OnOk, vec_len, slice_set, slice_index_or, IsTrue, ◌↔◌};
+ghost use Rattle.sexpr_read.specs.ByteClasses.{class_of, sign_of};
 ghost use Rattle.sexpr_read.specs.TreeKinds.{kind_of, no_cell};
 
-use crate::bytes::ByteClass;
+use crate::bytes::byte_at;
 use std::alloc::{AllocError, Global};
 
 /// What a tree is.
@@ -14,16 +15,29 @@ pub(crate) enum TreeKind {
     List,
 }
 
-/// The first byte of a tree says what it is.
+/// The first byte of a tree says what it is. Only two bytes are looked for.
 #[inline(always)]
-pub(crate) fn kind_of(first: ByteClass) -> TreeKind
-    ensures { result ≡ kind_of first }
+#[tactic(auto, unfolding(crate::specs::ByteClasses::class_of))]
+fn kind_of(first: u8) -> TreeKind
+    ensures { result ≡ kind_of (class_of first) }
 {
-    match first {
-        ByteClass::Open => TreeKind::List,
-        ByteClass::Quote => TreeKind::String,
-        _ => TreeKind::Word,
+    if first == b'(' {
+        TreeKind::List
+    } else if first == b'"' {
+        TreeKind::String
+    } else {
+        TreeKind::Word
     }
+}
+
+/// What the tree is that begins at this place.
+#[inline(always)]
+#[tactic(auto, unfolding(crate::specs::ByteClasses::sign_of))]
+pub(crate) fn kind_at(text: &[u8], at: usize) -> TreeKind
+    requires { at < length text.now }
+    ensures { result ≡ kind_of (sign_of text.now at) }
+{
+    kind_of(byte_at(text, at))
 }
 
 /// A list or an atom of a text. Cells stand in reading order, a list before what stands in it.

@@ -1,6 +1,6 @@
 //! Where the space and the comment lines between forms end.
 
-ghost use Rattle.std.specs.Prelude.{◌≡◌, ◌≢◌, ◌<◌, ◌≤◌, length, slice_index_or};
+ghost use Rattle.std.specs.Prelude.{◌≡◌, ◌≢◌, ◌<◌, ◌≤◌, false, length, slice_index_or};
 ghost use Rattle.sexpr_read.specs.declared.bytes.ByteClass.TheVariants.{Space};
 ghost use Rattle.sexpr_read.specs.ByteClasses.{sign_of};
 ghost use Rattle.sexpr_read.specs.Comments.{fresh, line_at, shown, signs};
@@ -65,6 +65,24 @@ fn comments_end(text: &[u8], at: usize, blank: bool) -> usize
         end = comment_end(text, end);
     }
     end
+}
+
+/// Where the space at `at` ends, and among forms the comment lines behind it. Something stands in the line before it.
+#[inline(always)]
+pub(crate) fn skip_space(text: &[u8], at: usize, one: bool) -> usize
+    requires within { at < length text.now }
+    requires space { sign_of text.now at ≡ Space }
+    requires line { IsInLine one text.now at false }
+    ensures gap { IsSpaceBetween (signs one text.now) at result }
+    ensures within { result ≤ length text.now }
+    ensures settled { IsSettled one text.now result }
+    ensures stops { result < length text.now → sign_of text.now result ≢ Space }
+{
+    if one {
+        gap_end(text, at + 1)
+    } else {
+        comments_end(text, at, false)
+    }
 }
 
 /// Where the space from `at` on ends, and among forms the comment lines.

@@ -7,6 +7,7 @@
 #![tactic(auto)]
 
 mod arena;
+mod byte_lanes;
 mod bytes;
 mod cell_estimate;
 mod comments;

@@ -15,7 +15,7 @@ ghost use Rattle.sexpr_read.specs.TreeViews.{root_of};
 use crate::arena::Arena;
 use crate::bytes::{ByteClass, sign_at};
 use crate::cell_estimate::about_cells;
-use crate::comments::skip;
+use crate::comments::{skip, skip_space};
 use crate::place::{Span, TextError};
 use crate::runs::{gap_end, string_end, word_end};
 use crate::view::Doc;
@@ -41,7 +41,7 @@ fn read_forest(text: &[u8], from: usize, one: bool, arena: &mut Arena) -> Result
     let mut depth: u32 = if one { 1 } else { 0 };
     'trees: while at < text.len() {
         match sign_at(text, at) {
-            ByteClass::Space => at = skip(text, at, one, false),
+            ByteClass::Space => at = skip_space(text, at, one),
             ByteClass::Open => {
                 if depth == MOST_LEVELS {
                     return Err(TextError::TooDeep { at: at as u32 });

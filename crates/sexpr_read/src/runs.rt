@@ -6,6 +6,7 @@ ghost use Rattle.sexpr_read.specs.ByteClasses.{sign_of, is_word};
 ghost use Rattle.sexpr_read.specs.Spelling.{IsSpaceBetween, IsWord, IsContent};
 ghost use Rattle.sexpr_read.specs.ReaderProgress.{IsUnclosed};
 
+use crate::byte_lanes::{itself_end, word_prefix_end};
 use crate::bytes::{ByteClass, sign_at};
 
 /// Where the space from `at` on ends.
@@ -33,7 +34,7 @@ pub(crate) fn word_end(text: &[u8], at: usize) -> usize
     ensures word { IsWord (sign_of text.now) at result }
     ensures within { result ≤ length text.now }
 {
-    let mut end = at + 1;
+    let mut end = word_prefix_end(text, at + 1);
     while end < text.len() {
         match sign_at(text, end) {
             ByteClass::Backslash | ByteClass::Plain => end += 1,
@@ -51,7 +52,7 @@ pub(crate) fn string_end(text: &[u8], at: usize) -> Option<usize>
     ensures quote { MatchOption result ⊤ (λ close. sign_of text.now close ≡ Quote) }
     ensures within { MatchOption result ⊤ (λ close. (at ≤ close) × (close < length text.now)) }
 {
-    let mut end = at;
+    let mut end = itself_end(text, at);
     while end < text.len() {
         match sign_at(text, end) {
             ByteClass::Quote => return Some(end),

@@ -6,8 +6,7 @@ ghost use Rattle.sexpr_read.specs.ForestCells.{cells_of, forest_of, tree_at, Lie
 ghost use Rattle.sexpr_read.specs.AtomTexts.{AreTexts, AreTexts-prop, HasTexts, HasTexts-prop};
 ghost use Rattle.sexpr_read.specs.declared.arena.TreeKind.TheVariants.{List as Nested};
 
-use crate::arena::{Cell, TreeKind, kind_of};
-use crate::bytes::sign_at;
+use crate::arena::{Cell, TreeKind, kind_at};
 use crate::decode::{append_unescaped, ends_plain, ends_unescaped, is_unescaped};
 use crate::place::Span;
 use std::alloc::AllocError;
@@ -217,7 +216,7 @@ impl<'d, 't> Iterator for Children<'d, 't> {
 
     fn next(&mut self) -> Option<Node<'d, 't>> {
         let (cell, after) = self.cells.split_first()?;
-        let kind = kind_of(sign_at(self.text, cell.at as usize));
+        let kind = kind_at(self.text, cell.at as usize);
         let (inside, others) = after.split_at(cell.inside as usize);
         self.cells = others;
         Some(Node {

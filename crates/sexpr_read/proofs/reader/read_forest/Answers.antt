@@ -27,9 +27,9 @@ trees-init c =
 
 pub trees-preserved-in-Space : goal.trees-preserved-in-Space
 trees-preserved-in-Space c = record {
-  read = reading_gap _ _ _ _ _ _ _ _ c.skip-at-in-Space.ensures.gap c.trees.invariant.read;
-  within = c.skip-at-in-Space.ensures.within;
-  settled = c.skip-at-in-Space.ensures.settled;
+  read = reading_gap _ _ _ _ _ _ _ _ c.skip_space-at.ensures.gap c.trees.invariant.read;
+  within = c.skip_space-at.ensures.within;
+  settled = c.skip_space-at.ensures.settled;
 }
 
 pub returns-then-depth-eq-MOST_LEVELS-clause-err : goal.returns-then-depth-eq-MOST_LEVELS-clause-err
@@ -113,11 +113,11 @@ trees-preserved c = record {
 pub trees-smaller-in-Space : goal.trees-smaller-in-Space
 trees-smaller-in-Space c =
     let space : sign_of c.args.text.now c.trees.at ≡ Space = sym c.sign_at.ensures ∙ c.in-Space.is in
-    let further : c.trees.at < c.skip-at-in-Space.result = elim (eq-or-lt_of_le c.skip-at-in-Space.ensures.gap.ordered) [
-      | inl same ↦ absurd (c.skip-at-in-Space.ensures.stops (rw (← same) c.trees-test.true) (rw (← same) space))
+    let further : c.trees.at < c.skip_space-at.result = elim (eq-or-lt_of_le c.skip_space-at.ensures.gap.ordered) [
+      | inl same ↦ absurd (c.skip_space-at.ensures.stops (rw (← same) c.trees-test.true) (rw (← same) space))
       | inr more ↦ more
     ] in
-    omega (arith, c.skip-at-in-Space.ensures.within)
+    omega (arith, c.skip_space-at.ensures.within)
 
 pub returns-then-is_closed-clause-ok : goal.returns-then-is_closed-clause-ok
 returns-then-is_closed-clause-ok c =

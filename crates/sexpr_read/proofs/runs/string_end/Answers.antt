@@ -1,11 +1,12 @@
-use Rattle.std.proofs.Common.{◌≡◌, suc, ◌+◌, true, sym, ◌∙◌, arith}
+use Rattle.std.proofs.Common.{◌≡◌, suc, ◌+◌, ◌-◌, true, sym, ◌∙◌, arith}
 use Rattle.sexpr_read.specs.ByteClasses.{sign_of, is_itself}
-use Rattle.sexpr_read.specs.Spelling.{empty}
-use Rattle.sexpr_read.proofs.Spelled.{and_itself, and_escape, is_itself_else}
+use Rattle.sexpr_read.proofs.Spelled.{and_itself, and_escape, is_itself_else, all_itself}
 use Rattle.sexpr_read.proofs.runs.string_end.Goals as goal
 
 pub loop-end-init : goal.loop-end-init
-loop-end-init c = (empty, omega arith, c.requires)
+loop-end-init c =
+    let from = c.itself_end-end.ensures in
+    (all_itself (sign_of c.args.text.now) (c.itself_end-end.result - c.args.at) c.args.at c.itself_end-end.result (omega (arith, from.ordered)) from.each, from.ordered, from.within)
 
 pub loop-end-preserved-in-Backslash : goal.loop-end-preserved-in-Backslash
 loop-end-preserved-in-Backslash c =

@@ -40,10 +40,10 @@ invariant_of-result c =
     let t = texts_of_split c.args.self.now.text.now c.args.self.now.cells.now c.in_ok-cell.cell.now c.in_ok-cell.after.now c.in_ok-cell.ensures.cases.0
     s c.args.self.now.texts in
     record {
-      placed = rw (c.kind_of-kind.ensures, c.sign_at.ensures) p.1;
+      placed = rw (c.kind_at-kind.ensures) p.1;
       whole = rw c.split_at.ensures.front s.inner;
       each_placed = rw c.split_at.ensures.front (placed-take c.args.self.now.text.now c.in_ok-cell.cell.now.inside c.in_ok-cell.after.now p.2);
-      texts = rw (c.split_at.ensures.front, c.kind_of-kind.ensures, c.sign_at.ensures) t.0;
+      texts = rw (c.split_at.ensures.front, c.kind_at-kind.ensures) t.0;
     }
 
 pub returns-clause-steps : goal.returns-clause-steps
@@ -51,7 +51,7 @@ unfolding tree_of trees_left
 returns-clause-steps c =
     let s = splits_at c.args.self.now.text.now c.args.self.now.cells.now c.in_ok-cell.cell.now c.in_ok-cell.after.now c.in_ok-cell.ensures.cases.0
     c.args.self.now.whole in
-    rw (c.in_ok-cell.ensures.cases.0, c.split_at.ensures.front, c.split_at.ensures.back, c.kind_of-kind.ensures, c.sign_at.ensures) s.given
+    rw (c.in_ok-cell.ensures.cases.0, c.split_at.ensures.front, c.split_at.ensures.back, c.kind_at-kind.ensures) s.given
 
 pub returns-clause-goes : goal.returns-clause-goes
 unfolding trees_left
