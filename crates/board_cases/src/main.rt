@@ -25,7 +25,7 @@ fn answer(alloc: Global, call: &str) -> Result<Vec<u8>, Fault> {
         "read_board" => boards::read(alloc, written),
         "read_with_spans" => boards::spanned(alloc, written),
         "read_item" => boards::listed(alloc, written),
-        "rows_of" | "rows_of_changed" => tested::answer(alloc, name, written),
+        "rows_of" | "rows_of_changed" | "test_tile" => tested::answer(alloc, name, written),
         "remove" | "taken" | "moved" | "find" => edits::answer(alloc, name, written),
         _ => asked::answer(alloc, name, written),
     }

@@ -1,14 +1,32 @@
 //! Calls on the rows of a board or of a tile of it, under no project and no rules. A row is shown by its items and its kind.
 
+ghost use Rattle.std.specs.Prelude.{◌≡◌, ◌<◌};
+ghost use Rattle.pair_check.specs.CheckViews.{checked_by, IsWholeView};
+ghost use Rattle.row_check.specs.RowsOfTile.{IsIndexOf};
+
 use board_index::index_of;
 use board_items::Board;
+use box_index::TileIndex;
 use case_lines::{Fault, add, first_word, number, refused, small, text_of};
 use item_facts::{all_facts, reach};
 use net_class::Classes;
 use pcb_read::read_board;
 use plain_types::HasReason;
-use row_check::{CheckView, Row, rows_of, rows_of_changed};
-use std::alloc::Global;
+use row_check::{CheckView, Row, Steps, rows_of, rows_of_changed, test_tile};
+use std::alloc::{AllocError, Global};
+use std::marker::Brand;
+use std::sync::ledger::{Blank, Ledger};
+
+/// Which rows are asked for.
+#[derive(Clone, Copy)]
+enum Wanted {
+    /// All rows of the board.
+    All,
+    /// Those of a tile with the item that changed, and those of that item alone.
+    Changed { tile: u32, id: u32 },
+    /// Those of a tile with the item that changed.
+    Pairs { tile: u32, id: u32 },
+}
 
 fn shown(alloc: Global, rows: &[Row]) -> Result<Vec<u8>, Fault> {
     if rows.is_empty() {
@@ -27,8 +45,27 @@ fn shown(alloc: Global, rows: &[Row]) -> Result<Vec<u8>, Fault> {
     Ok(out)
 }
 
-/// The rows of a tile with the item that changed and those of that item alone, or, where none is named, those of the board.
-fn rows_on(alloc: Global, board: &Board, changed: Option<(u32, u32)>) -> Result<Vec<u8>, Fault> {
+/// The rows of a tile with the item that changed, on a counter of its own.
+fn rows_of_pairs<L: Ledger>(
+    alloc: Global,
+    view: &CheckView<'_>,
+    index: &TileIndex,
+    tile: u32,
+    id: u32,
+    blank: Blank,
+) -> Result<Vec<Row>, AllocError>
+    requires name { blank.name ≡ L.name }
+    requires parts { blank.parts ≡ L.parts }
+    requires some { 0 < blank.parts }
+    requires view { IsWholeView view.now }
+    requires index { IsIndexOf (checked_by view.now) index.now }
+{
+    let mut steps: Steps<L> = Steps::new(blank);
+    test_tile(alloc, view, index, tile, &[id], &mut steps)
+}
+
+/// The rows that are asked for.
+fn rows_on(alloc: Global, board: &Board, wanted: Wanted) -> Result<Vec<u8>, Fault> {
     let classes = Classes::plain(alloc)?;
     let facts = all_facts(alloc, board, &classes)?;
     let index = index_of(alloc, board, reach(board, &classes, &[]))?;
@@ -38,9 +75,12 @@ fn rows_on(alloc: Global, board: &Board, changed: Option<(u32, u32)>) -> Result<
         rules: &[],
         classes: &classes,
     };
-    let rows = match changed {
-        Some((tile, id)) => rows_of_changed(alloc, &view, &index, &[tile], &[id])?,
-        None => rows_of(alloc, &view, &index)?,
+    let rows = match wanted {
+        Wanted::All => rows_of(alloc, &view, &index)?,
+        Wanted::Changed { tile, id } => rows_of_changed(alloc, &view, &index, &[tile], &[id])?,
+        Wanted::Pairs { tile, id } => {
+            rows_of_pairs::<Brand>(alloc, &view, &index, tile, id, Blank::new(1))?
+        }
     };
     shown(alloc, &rows)
 }
@@ -52,18 +92,27 @@ fn changed_of(written: &str) -> Result<((u32, u32), &str), Fault> {
     Ok(((small(number(tile)?)?, small(number(id)?)?), text))
 }
 
-/// The answer of the call of this name, where the text of a board is written; for the rows of what changed, behind the number of a
-/// tile and the id of the item that changed.
-pub fn answer(alloc: Global, name: &str, written: &str) -> Result<Vec<u8>, Fault> {
-    let (changed, text) = match name {
+/// What the call of this name asks for, and the text of the board.
+fn wanted_of<'t>(name: &str, written: &'t str) -> Result<(Wanted, &'t str), Fault> {
+    match name {
         "rows_of_changed" => {
-            let (changed, text) = changed_of(written)?;
-            (Some(changed), text)
+            let ((tile, id), text) = changed_of(written)?;
+            Ok((Wanted::Changed { tile, id }, text))
         }
-        _ => (None, written),
-    };
+        "test_tile" => {
+            let ((tile, id), text) = changed_of(written)?;
+            Ok((Wanted::Pairs { tile, id }, text))
+        }
+        _ => Ok((Wanted::All, written)),
+    }
+}
+
+/// The answer of the call of this name, where the text of a board is written. For the rows of a tile that stands behind the number of
+/// the tile and the id of the item that changed.
+pub fn answer(alloc: Global, name: &str, written: &str) -> Result<Vec<u8>, Fault> {
+    let (wanted, text) = wanted_of(name, written)?;
     match read_board(alloc, &text_of(alloc, text)?) {
-        Ok(board) => rows_on(alloc, &board, changed),
+        Ok(board) => rows_on(alloc, &board, wanted),
         Err(error) => refused(alloc, &error, error.reason().place()),
     }
 }

@@ -16,7 +16,7 @@ ghost use Rattle.drc_session.specs.Sessions.{IsDealt};
 use crate::applied::Applied;
 use box_index::TileIndex;
 use geo_seg::Bounds;
-use kept_rows::{update_rows, whole_board_rows};
+use kept_rows::{all_rows, update_rows};
 use row_check::{CheckView, Row, ids_of};
 use std::alloc::{AllocError, Global};
 use std::thread::Threads;
@@ -50,7 +50,7 @@ pub(crate) fn check_all<R: Threads + Sync, G: Gate>(
         changed: &ids,
     };
     let (batches, dealt) = test_tiles(rt, alloc, workers, work, gate)?;
-    let rows = whole_board_rows(alloc, &view, index, &ids, &tiles, &batches)?;
+    let rows = all_rows(alloc, &view, index, &ids, &tiles, &batches)?;
     let applied = Applied {
         dealt,
         tiles,

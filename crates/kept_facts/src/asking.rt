@@ -1,8 +1,8 @@
 //! The items that an edit may concern.
 
-ghost use Rattle.std.specs.Prelude.{◌≡◌, ◌↔◌, IsTrue, Some, OnOk, IfOk, pos, IfSome};
+ghost use Rattle.std.specs.Prelude.{◌≡◌, ◌↔◌, IsTrue, Some, OnOk, IfOk, IfSome};
 ghost use Rattle.std.specs.Option.{option_copied};
-ghost use Rattle.geo_seg.specs.Boxes.{FitsWithin};
+ghost use Rattle.geo_seg.specs.Boxes.{FitsIndex};
 ghost use Rattle.board_items.specs.declared.item.Item.{Item};
 ghost use Rattle.board_items.specs.Boards.{item_at};
 ghost use Rattle.board_items.specs.ItemParts.{parts_of};
@@ -20,15 +20,15 @@ use std::alloc::{AllocError, Global};
 /// The bounds, which the index takes.
 fn bounds_of(item: &Item) -> Option<Bounds>
     ensures least { AreBoundsOf (parts_of item.now) result }
-    ensures fits { IfSome result (FitsWithin (pos 2000000000)) }
+    ensures fits { IfSome result FitsIndex }
 {
     item.bounds()
 }
 
 /// Appends the ids of the entries whose boxes meet that of the area or body.
 fn push_near(index: &TileIndex, mark: Option<&Item>, ids: &mut Vec<u32>) -> Result<(), AllocError>
-    ensures { OnOk result (HasNear index.now
-        (option_copied mark.entry) ids.old.items ids.new.items) }
+    ensures { OnOk result
+        (HasNear index.now (option_copied mark.entry) ids.old.items ids.new.items) }
 {
     match mark {
         None => Ok(()),
@@ -41,7 +41,8 @@ fn push_near(index: &TileIndex, mark: Option<&Item>, ids: &mut Vec<u32>) -> Resu
 
 /// Whether the item of the id, if there is one, has the same name from the one as from the other.
 fn is_unconcerned(board: &Board, id: u32, before: Option<&Item>, now: Option<&Item>) -> bool
-    ensures { IsTrue result ↔ ((item : Item) → item_at board.now.items id ≡ Some item
+    ensures { IsTrue result
+        ↔ ((item : Item) → item_at board.now.items id ≡ Some item
         → GiveSame item (option_copied before.entry) (option_copied now.entry)) }
 {
     match board.get(id) {
@@ -58,7 +59,8 @@ fn push_others(
     now: Option<&Item>,
     asked: &mut Vec<u32>,
 ) -> Result<(), AllocError>
-    ensures { OnOk result (HasOthers board.now near.now (option_copied before.entry)
+    ensures { OnOk result
+        (HasOthers board.now near.now (option_copied before.entry)
         (option_copied now.entry) asked.old.items asked.new.items) }
 {
     for id in near {
@@ -79,7 +81,8 @@ fn push_concerned(
     asked: &mut Vec<u32>,
 ) -> Result<(), AllocError>
     requires { HoldsItems board.now index.now }
-    ensures { OnOk result (HasConcerned board.now (option_copied before.entry)
+    ensures { OnOk result
+        (HasConcerned board.now (option_copied before.entry)
         (option_copied now.entry) asked.old.items asked.new.items) }
 {
     near.clear();

@@ -111,8 +111,8 @@ fn is_same(a: Option<&Name>, b: Option<&Name>) -> bool
 
 /// Whether the item has the same name from the one as from the other, or none from both.
 pub(crate) fn give_same(item: &Item, before: Option<&Item>, now: Option<&Item>) -> bool
-    ensures { IsTrue result ↔ GiveSame item.now (option_copied before.entry)
-        (option_copied now.entry) }
+    ensures { IsTrue result
+        ↔ GiveSame item.now (option_copied before.entry) (option_copied now.entry) }
 {
     is_same(title_if(item, before), title_if(item, now))
         && is_same(reference_if(item, before), reference_if(item, now))

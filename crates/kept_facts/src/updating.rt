@@ -4,7 +4,6 @@ ghost use Rattle.std.specs.Prelude.{◌≡◌, ◌↔◌, IfOk, OnOk, IsTrue, So
 ghost use Rattle.std.specs.Option.{option_copied};
 ghost use Rattle.std.specs.List.Sorted.{IsStrictlyIncreasing};
 ghost use Rattle.board_items.specs.Boards.{PlainBoard};
-ghost use Rattle.row_check.specs.RowsOfTile.{is_changed};
 ghost use Rattle.board_index.specs.IndexedItems.{HoldsItems};
 ghost use Rattle.item_facts.specs.Known.{AreKnown};
 ghost use Rattle.item_facts.specs.NearItems.{HoldsMarks};
@@ -19,16 +18,9 @@ use box_index::TileIndex;
 use indexmap::IndexMap;
 use item_facts::{facts_near, same};
 use net_class::{Class, Classes};
+use row_check::is_changed;
 use rule_pick::{Facts, FactsById};
 use std::alloc::{AllocError, Global};
-
-/// Whether the id is one of the edit's.
-fn is_among(ids: &[u32], id: u32) -> bool
-    requires { IsStrictlyIncreasing ids.now }
-    ensures { result ≡ is_changed ids.now id }
-{
-    ids.binary_search(&id).is_ok()
-}
 
 /// Whether these facts were kept.
 fn are_kept(kept: Option<&Facts>, facts: &Facts) -> bool
@@ -61,8 +53,9 @@ fn find_again<'a>(
     requires index { HoldsMarks sources.now.board.now.items sources.now.index.now }
     requires known { AreKnown sources.now.classes.now sources.now.board.now known.old }
     ensures known { OnOk result (AreKnown sources.now.classes.now sources.now.board.now known.new) }
-    ensures found { IfOk result (λ differs.
-        IsFoundAgain sources.now.board.now sources.now.classes.now id facts.old facts.new differs) }
+    ensures found { IfOk result
+        (λ differs. IsFoundAgain sources.now.board.now sources.now.classes.now id facts.old
+        facts.new differs) }
 {
     match sources.board.get(id) {
         None => Ok(facts.remove(id).is_some()),
@@ -95,9 +88,9 @@ fn find_all_again(
     requires index { HoldsMarks sources.now.board.now.items sources.now.index.now }
     requires ids { IsStrictlyIncreasing ids.now }
     requires asked { IsStrictlyIncreasing asked.now }
-    ensures { IfOk result (λ changed.
-        AreFoundAgain sources.now.board.now sources.now.classes.now ids.now asked.now facts.old
-        facts.new changed.items) }
+    ensures { IfOk result
+        (λ changed. AreFoundAgain sources.now.board.now sources.now.classes.now ids.now asked.now
+        facts.old facts.new changed.items) }
 {
     let mut known = IndexMap::new(sources.alloc);
     let mut room = Vec::new(sources.alloc);
@@ -105,7 +98,7 @@ fn find_all_again(
     for place in 0..asked.len() {
         let id = asked[place];
         let differs = find_again(sources, &mut known, &mut room, facts, id)?;
-        if differs || is_among(ids, id) {
+        if differs || is_changed(ids, id) {
             changed.push(id)?;
         }
     }

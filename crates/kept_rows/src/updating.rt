@@ -6,30 +6,21 @@ ghost use Rattle.std.specs.List.Sorted.{IsStrictlyIncreasing};
 ghost use Rattle.pair_check.specs.PlainRow.{PlainRow};
 ghost use Rattle.pair_check.specs.Rows.{Checked, AreRows};
 ghost use Rattle.pair_check.specs.CheckViews.{checked_by, IsWholeView};
-ghost use Rattle.row_check.specs.RowsOfTile.{IsIndexOf, AreRowsOfTile, is_changed};
+ghost use Rattle.row_check.specs.RowsOfTile.{IsIndexOf, AreRowsOfTile};
 ghost use Rattle.row_check.specs.Whole.{AreEnough, ids_of};
 ghost use Rattle.kept_rows.specs.CheckChanges.{IsCheckChange, is_touched};
 
-use crate::batch::TileRows;
 use box_index::TileIndex;
 use row_check::order::put_in_order;
-use row_check::{CheckView, Row, push_singles};
+use row_check::{CheckView, Row, TileRows, is_changed, push_singles, soundness};
 use std::alloc::{AllocError, Global};
-
-/// Whether the id is one of those that changed.
-fn is_among(changed: &[u32], id: u32) -> bool
-    requires { IsStrictlyIncreasing changed.now }
-    ensures { result ≡ is_changed changed.now id }
-{
-    changed.binary_search(&id).is_ok()
-}
 
 /// Whether one of the items of the row changed.
 fn is_touched(changed: &[u32], row: &Row) -> bool
     requires { IsStrictlyIncreasing changed.now }
     ensures { result ≡ is_touched changed.now row.now }
 {
-    is_among(changed, row.first()) || is_among(changed, row.second())
+    is_changed(changed, row.first()) || is_changed(changed, row.second())
 }
 
 /// Drops the rows of what changed. It takes no memory.
@@ -42,8 +33,9 @@ fn keep_untouched(rows: &mut Vec<Row>, changed: &[u32])
 
 /// Appends the rows of each batch.
 fn push_batches(rows: &mut Vec<Row>, batches: &[TileRows]) -> Result<(), AllocError>
-    ensures { OnOk result (rows.new.items
-        ≡ rows.old.items ++ flat_map (λ (batch : List PlainRow). batch) batches.now) }
+    ensures { OnOk result
+        (rows.new.items ≡ rows.old.items ++ flat_map
+        (λ (batch : List PlainRow). batch) batches.now) }
 {
     for batch in batches {
         // most tiles have no rows
@@ -56,28 +48,29 @@ fn push_batches(rows: &mut Vec<Row>, batches: &[TileRows]) -> Result<(), AllocEr
 
 /// Makes the rows of what was checked before a change those of what is checked now.
 ///
-/// `changed` are the ids, rising, of all that changed. The tiles are all that hold an entry that changed, and the batches their
-/// rows with such an entry. Only running out of memory fails it, and the rows are then of no use.
+/// `changed` are the ids, rising, of all that changed. `_tiles` are all tiles that hold an entry that changed, and the batches are
+/// their rows with such an entry. The tiles tell the contract alone which rows these are. Only want of memory fails it, and the rows
+/// are then of no use.
 pub fn update_rows(
     alloc: Global,
     view: &CheckView,
     index: &TileIndex,
     rows: &mut Vec<Row>,
     changed: &[u32],
-    tiles: &[u32],
+    _tiles: &[u32],
     batches: &[TileRows],
 ) -> Result<(), AllocError>
     requires view { IsWholeView view.now }
     requires index { IsIndexOf (checked_by view.now) index.now }
     requires changed { IsStrictlyIncreasing changed.now }
-    requires enough { AreEnough index.now changed.now tiles.now }
-    requires batches { AllZip (λ tile batch.
-        AreRowsOfTile (checked_by view.now) index.now tile changed.now batch) tiles.now batches.now }
+    requires enough { AreEnough index.now changed.now _tiles.now }
+    requires batches { AllZip
+        (λ tile batch. AreRowsOfTile (checked_by view.now) index.now tile changed.now batch)
+        _tiles.now batches.now }
     ensures { (old : Checked) → IsCheckChange old (checked_by view.now) changed.now
         → AreRows old rows.old.items → OnOk result (AreRows (checked_by view.now) rows.new.items) }
 {
-    // the index says here that it is sound
-    let _ = index.near(0);
+    soundness(index);
     keep_untouched(rows, changed);
     push_singles(alloc, view, changed, rows)?;
     push_batches(rows, batches)?;
@@ -86,7 +79,7 @@ pub fn update_rows(
 }
 
 /// The rows of all that is checked. `ids` are those of all items, and the batches are the rows of all tiles that hold an entry.
-pub fn whole_board_rows(
+pub fn all_rows(
     alloc: Global,
     view: &CheckView,
     index: &TileIndex,
@@ -99,8 +92,9 @@ pub fn whole_board_rows(
     requires ids { ids.now ≡ ids_of (checked_by view.now).board }
     requires rise { IsStrictlyIncreasing ids.now }
     requires enough { AreEnough index.now ids.now tiles.now }
-    requires batches { AllZip (λ tile batch.
-        AreRowsOfTile (checked_by view.now) index.now tile ids.now batch) tiles.now batches.now }
+    requires batches { AllZip
+        (λ tile batch. AreRowsOfTile (checked_by view.now) index.now tile ids.now batch) tiles.now
+        batches.now }
     ensures { IfOk result (λ rows. AreRows (checked_by view.now) rows.items) }
 {
     let mut rows = Vec::new(alloc);

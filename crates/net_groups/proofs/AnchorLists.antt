@@ -8,7 +8,7 @@ use Rattle.std.proofs.lemmas.List.{get_or_append_left, get_or-append_right, get_
 use Rattle.ratsnest.specs.CoordinateRange.{IsInReach}
 use Rattle.ratsnest.specs.declared.anchor.Anchor.{Anchor}
 use Rattle.ratsnest.specs.NestOf.{nowhere, anchor_at, group_at, group_count, IsBefore, AnchorsRise}
-use Rattle.net_groups.proofs.OneOrder.{same_lists}
+use Rattle.board_index.proofs.OneList.{same_lists}
 
 -- ---- an anchor is told by what it says; the ranges have one proof each
 ≤ℤ_prop : (a b : ℤ) → IsProp (a ≤ℤ b)

@@ -11,7 +11,6 @@ pub mod Placed
 pub mod Conductors
 pub mod Gathering
 pub mod Whole
-pub mod OneOrder
 pub mod Once
 pub mod Nets
 pub mod AnchorLists

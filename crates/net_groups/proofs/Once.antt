@@ -4,7 +4,7 @@ use Rattle.std.specs.List.{Any, AllPairs}
 use Rattle.std.proofs.lemmas.List.Elements.{All-head, All-tail, All-contains, Contains-get_or}
 use Rattle.item_copper.proofs.Meeting.{any_here, any_later, any_cases, any_none}
 use Rattle.net_groups.specs.ConnectedClasses.{Rises, least, AreTogether, AreDisjoint, AreClasses}
-use Rattle.net_groups.proofs.OneOrder.{same_lists}
+use Rattle.board_index.proofs.OneList.{same_lists}
 use Rattle.net_groups.proofs.Whole.{least_le}
 
 same_rising : (xs ys : List ℕ) → Rises xs → Rises ys → ((a : ℕ) → Contains xs a → Contains ys a) → ((a : ℕ) → Contains ys a → Contains xs a) → xs ≡ ys

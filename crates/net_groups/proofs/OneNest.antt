@@ -3,7 +3,7 @@ use Rattle.std.proofs.Common.{◌≡◌, ◌⊎◌, inl, inr, sym, List, arith}
 use Rattle.ratsnest.specs.declared.anchor.Anchor.{Anchor}
 use Rattle.ratsnest.specs.declared.link.Link.{Link}
 use Rattle.ratsnest.specs.NestOf.{IsBefore, Precedes, IsNest, anchor_at}
-use Rattle.net_groups.proofs.OneOrder.{same_lists}
+use Rattle.board_index.proofs.OneList.{same_lists}
 use Rattle.net_groups.proofs.AnchorLists.{both_before}
 
 -- no anchor comes before one with its id and number

@@ -14,9 +14,10 @@ use Rattle.cond_lang.specs.declared.kind.Kind.{Kind}
 use Rattle.cond_lang.specs.declared.kind.Kind.TheVariants.{Short, Clearance, HoleClearance, HoleToHole, EdgeClearance, CourtyardClearance, Keepout, PhysicalClearance, PhysicalHoleClearance}
 use Rattle.cond_lang.specs.CheckKinds.{kind_number}
 use Rattle.cond_lang.specs.Rules.{PlainConstraint, PlainRule}
+use Rattle.rule_pick.specs.CopperDemands.{AsksAtMost, EachAsksAtMost, AskAtMost, ItAsksAtMost}
 use Rattle.rule_pick.specs.Deciding.{asked_by, asked_least}
 use Rattle.rule_pick.specs.Picks.{Pick}
-use Rattle.rule_pick.specs.Reach.{is_between_two}
+use Rattle.rule_pick.specs.Reach.{is_between_two, is_of_copper}
 use Rattle.item_copper.proofs.ItemBoxes.{all_lie}
 use Rattle.item_copper.proofs.Far.{far_in, far_back, each_lies}
 use Rattle.kind_subjects.specs.declared.layer.RowLayer.{RowLayer}
@@ -32,7 +33,7 @@ use Rattle.pair_check.proofs.NearPicks.{found_has, at_has, picked_at_most}
 use Rattle.pair_check.proofs.PassedKinds.{no_edge, no_courtyards, no_keepout}
 use Rattle.pair_check.proofs.RowsOfPair.{rows_of_pair}
 use Rattle.row_check.specs.declared.operands.Operand.{Operand}
-use Rattle.row_check.specs.CopperSeparation.{is_of_copper, AsksAtMost, EachAsksAtMost, AskAtMost, ItAsksAtMost, AreBoxesApart}
+use Rattle.row_check.specs.CopperSeparation.{AreBoxesApart}
 use Rattle.row_check.specs.Operands.{StandsAt}
 use Rattle.row_check.specs.EntryWalks.{HasAddedRows}
 use Rattle.row_check.proofs.NearPairs.{breaks_nothing}
@@ -44,16 +45,16 @@ along u v w h k = omega (arith, ints)
 unlike : (b : Bool) → b ≡ false → IsTrue b → ⊥
 unlike b e t = cc
 
-module _ (d : Deciders) (pair : Pair) (least most : ℤ) (ask : AskAtMost d least) (some : pos 0 ≤ℤ most) (within : least ≤ℤ most) (first : ItAsksAtMost pair.facts_a most) (second : ItAsksAtMost pair.facts_b most) where
+module _ (d : Deciders) (pair : Pair) (least most : ℤ) (ask : AskAtMost d.rules d.mins least) (some : pos 0 ≤ℤ most) (within : least ≤ℤ most) (first : ItAsksAtMost pair.facts_a most) (second : ItAsksAtMost pair.facts_b most) where
   by_rules : (kind : Kind) → is_of_copper kind ≡ true → (place : ℕ) (rule : PlainRule) (c : PlainConstraint) → slice_get d.rules place ≡ Some rule → asked_by kind rule ≡ Some c → asked_least c ≤ℤ most
   by_rules kind of place rule c stands asked =
-      let has = found_has (AsksAtMost least) (λ x. kind_number x.kind == kind_number kind) rule.constraints c (at_has (EachAsksAtMost least) d.rules place rule ask.rules stands) asked in
+      let has = found_has (AsksAtMost least) (λ x. kind_number x.kind == kind_number kind) rule.constraints c (at_has (EachAsksAtMost least) d.rules place rule ask.by_rules stands) asked in
       let same = same_number c.kind kind (exact_unsigned_eq (kind_number c.kind) (kind_number kind) has.1) in
       along (asked_least c) least most (has.0 (subst (λ (k : Kind). is_of_copper k ≡ true) (sym same) of)) within
 
   at_most : (kind : Kind) → is_of_copper kind ≡ true → (layer : RowLayer) (pick : Pick) → IsPickOf d kind pair layer pick → pick.least ≤ℤ most
   at_most kind of layer pick picked =
-      picked_at_most d.rules d.mins most kind (by_rules kind of) (λ micro. along _ least most (ask.board micro kind of) within) pair.facts_a pair.facts_b first.local second.local first.class_clearance second.class_clearance
+      picked_at_most d.rules d.mins most kind (by_rules kind of) (λ micro. along _ least most (ask.by_board micro kind of) within) pair.facts_a pair.facts_b first.local second.local first.class_clearance second.class_clearance
       (asked_layer layer) pick picked
 
   module _ (box_a box_b : Bounds) (own : AreBoundsOf (parts_of pair.a) (Some box_a)) (others : AreBoundsOf (parts_of pair.b) (Some box_b)) (clear : AreClear box_a box_b (most +ℤ most +ℤ pos 1)) (copper : are_copper pair.a pair.b ≡ true)
@@ -76,7 +77,7 @@ module _ (d : Deciders) (pair : Pair) (least most : ℤ) (ask : AskAtMost d leas
     none _ says = says
 
 -- so two such items have no row
-pub no_rows_apart : (c : Checked) (least : ℤ) → AskAtMost (deciders c) least → (a b : Entry) (one other : Operand) → StandsAt c one → StandsAt c other → one.id ≡ a.id → other.id ≡ b.id → one.id < other.id → IsEntryOf c.board a → IsEntryOf c.board b
+pub no_rows_apart : (c : Checked) (least : ℤ) → AskAtMost (deciders c).rules (deciders c).mins least → (a b : Entry) (one other : Operand) → StandsAt c one → StandsAt c other → one.id ≡ a.id → other.id ≡ b.id → one.id < other.id → IsEntryOf c.board a → IsEntryOf c.board b
     → AreBoxesApart least a b one.single other.single → (rows : List PlainRow) → HasAddedRows (AreRowsOfPair c one.id other.id) rows rows
 no_rows_apart c least ask a b one other stands stands_too same same_too ordered on on_too apart rows =
     let pair : Pair = record { a = one.single.item.now; b = other.single.item.now; facts_a = one.single.facts.now; facts_b = other.single.facts.now } in

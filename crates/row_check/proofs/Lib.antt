@@ -3,14 +3,13 @@ pub mod PairLists
 pub mod TestedPairs
 pub mod NearPairs
 pub mod ApartPairs
-pub mod MostAsked
 pub mod ClearBoxes
 pub mod TileRows
 pub mod TileWalk
 pub mod OneList
 pub mod Sorting
 pub mod WholeRows
-pub mod NearFacings
+pub mod NearMeasuredPairs
 pub mod BlockLists
 pub mod TileEnds
 pub mod Singles

@@ -4,3 +4,4 @@ pub mod Blocks
 pub mod Whole
 pub mod Operands
 pub mod CopperSeparation
+pub mod Asks

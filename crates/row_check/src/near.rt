@@ -15,7 +15,8 @@ pub fn broken_near()
     ensures { (c : Checked) (row : PlainRow) (n : ℤ) → IsReach c.board c.classes c.rules n
         → (two : IsRowOfTwo c row) (box_a box_b : Bounds)
         → AreBoundsOf (parts_of two.pair.a) (Some box_a)
-        → AreBoundsOf (parts_of two.pair.b) (Some box_b) → IsTrue (are_near (n +ℤ n) box_a box_b) }
+        → AreBoundsOf (parts_of two.pair.b) (Some box_b)
+        → IsTrue (are_near (n +ℤ n) box_a box_b) }
 {}
 
 /// Two items that break something together both have parts.

@@ -19,8 +19,8 @@ pub(crate) struct Operand<'a> {
 /// The item of the id, looked up.
 pub(crate) fn operand_of<'a>(view: &CheckView<'a>, id: u32) -> Option<Operand<'a>>
     requires { IsWholeView view.now }
-    ensures { MatchOption result (item_at (checked_by view.now).board.items id ≡ None) (λ operand.
-        (operand.id ≡ id) × StandsAt (checked_by view.now) operand) }
+    ensures { MatchOption result (item_at (checked_by view.now).board.items id ≡ None)
+        (λ operand. (operand.id ≡ id) × StandsAt (checked_by view.now) operand) }
 {
     let single = single_at(view, id)?;
     Some(Operand { id, single })
@@ -55,8 +55,8 @@ pub(crate) fn operand_at<'a>(
 ) -> Option<Operand<'a>>
     requires view { IsWholeView view.now }
     requires operands { All (StandsAt (checked_by view.now)) operands.now }
-    ensures { MatchOption result (item_at (checked_by view.now).board.items id ≡ None) (λ operand.
-        (operand.id ≡ id) × StandsAt (checked_by view.now) operand) }
+    ensures { MatchOption result (item_at (checked_by view.now).board.items id ≡ None)
+        (λ operand. (operand.id ≡ id) × StandsAt (checked_by view.now) operand) }
 {
     match operands.get(operands.len().wrapping_sub(count)) {
         Some(operand) if operand.id == id => Some(*operand),

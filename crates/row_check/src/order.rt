@@ -27,8 +27,8 @@ fn place_of(row: &Row) -> Place
 
 /// Puts rows in order. Only running out of memory fails it.
 pub fn put_in_order(rows: &mut Vec<Row>) -> Result<(), AllocError>
-    ensures { OnOk result (IsPermutation rows.old.items rows.new.items
-        × AreInOrder rows.new.items) }
+    ensures { OnOk result
+        (IsPermutation rows.old.items rows.new.items × AreInOrder rows.new.items) }
 {
     rows.sort_by_key(|row| place_of(row))?;
     Ok(())

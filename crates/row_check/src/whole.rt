@@ -7,12 +7,15 @@ ghost use Rattle.pair_check.specs.Alone.{AreEnoughAlone, BreaksNothing};
 ghost use Rattle.pair_check.specs.Pairs.{Deciders};
 ghost use Rattle.pair_check.specs.Rows.{AreRows, AreRowsOfItem, AreRowsWhere};
 ghost use Rattle.pair_check.specs.CheckViews.{checked_by, deciders_of, IsWholeView};
+ghost use Rattle.row_check.specs.Asks.{AreAsksOf};
 ghost use Rattle.row_check.specs.RowsOfTile.{IsIndexOf, AreRowsOfTile};
 ghost use Rattle.row_check.specs.EntryWalks.{HasAddedRows};
 ghost use Rattle.row_check.specs.Whole.{AreOnceWhere, AreSingles, IsOfTiles, IsOfChanged, ids_of};
 
+use crate::asks::PairAsks;
 use crate::order::put_in_order;
-use crate::tile::test_tile;
+use crate::sound::soundness;
+use crate::tile::test_tile_by;
 use board_items::{Board, Item};
 use box_index::TileIndex;
 use pair_check::{CheckView, Enough, Row, Steps, enough_alone, test_item};
@@ -34,8 +37,8 @@ pub fn ids_of(alloc: Global, board: &Board) -> Result<Vec<u32>, AllocError>
 
 /// Appends the rows of a tile.
 fn push_tile<L: Ledger>(
-    alloc: Global,
     view: &CheckView,
+    asks: PairAsks,
     index: &TileIndex,
     tile: u32,
     changed: &[u32],
@@ -43,13 +46,15 @@ fn push_tile<L: Ledger>(
     steps: &mut Steps<L>,
 ) -> Result<(), AllocError>
     requires view { IsWholeView view.now }
+    requires asks { AreAsksOf (deciders_of view.now) asks }
     requires index { IsIndexOf (checked_by view.now) index.now }
     requires changed { IsStrictlyIncreasing changed.now }
-    ensures { OnOk result (HasAddedRows
-        (AreRowsOfTile (checked_by view.now) index.now tile changed.now) rows.old.items
+    ensures { OnOk result
+        (HasAddedRows (AreRowsOfTile (checked_by view.now) index.now tile changed.now) rows.old.items
         rows.new.items) }
 {
-    let found = test_tile(alloc, view, index, tile, changed, steps)?;
+    let alloc = *rows.allocator();
+    let found = test_tile_by(alloc, view, asks, index, tile, changed, steps)?;
     rows.extend_from_slice(&found)?;
     Ok(())
 }
@@ -68,17 +73,19 @@ fn rows_of_tiles<L: Ledger>(
     requires sound { IsSoundIndex index.now }
     requires tiles { IsStrictlyIncreasing tiles.now }
     requires changed { IsStrictlyIncreasing changed.now }
-    ensures { IfOk result (λ rows.
-        AreOnceWhere (IsOfTiles (checked_by view.now) index.now tiles.now changed.now) rows.items) }
+    ensures { IfOk result
+        (λ rows. AreOnceWhere
+        (IsOfTiles (checked_by view.now) index.now tiles.now changed.now) rows.items) }
 {
+    let asks = PairAsks::by(view);
     let mut rows = Vec::new(alloc);
     for tile in tiles {
-        push_tile(alloc, view, index, *tile, changed, &mut rows, steps)?;
+        push_tile(view, asks, index, *tile, changed, &mut rows, steps)?;
     }
     Ok(rows)
 }
 
-/// Whether the item is known to break nothing.
+/// Whether the item is known to break nothing. Only a yes is sure.
 fn breaks_nothing(enough: Option<Enough>, item: &Item) -> bool
     ensures { (d : Deciders) → IfSome enough (AreEnoughAlone d) → result ≡ true
         → BreaksNothing d item.now }
@@ -99,8 +106,8 @@ fn push_single(
 ) -> Result<(), AllocError>
     requires view { IsWholeView view.now }
     requires enough { IfSome enough (AreEnoughAlone (deciders_of view.now)) }
-    ensures rows { OnOk result (HasAddedRows
-        (AreRowsOfItem (checked_by view.now) id) rows.old.items rows.new.items) }
+    ensures rows { OnOk result
+        (HasAddedRows (AreRowsOfItem (checked_by view.now) id) rows.old.items rows.new.items) }
     ensures same { OnErr result (rows.new.items ≡ rows.old.items) }
 {
     match view.board.get(id) {
@@ -126,11 +133,11 @@ pub fn push_singles(
 ) -> Result<(), AllocError>
     requires view { IsWholeView view.now }
     requires rise { IsStrictlyIncreasing ids.now }
-    ensures rows { OnOk result (HasAddedRows
-        (AreSingles (checked_by view.now) ids.now) rows.old.items rows.new.items) }
-    ensures first { OnErr result ((count : ℕ)
-        × HasAddedRows (AreSingles (checked_by view.now)
-        (take count ids.now)) rows.old.items rows.new.items) }
+    ensures rows { OnOk result
+        (HasAddedRows (AreSingles (checked_by view.now) ids.now) rows.old.items rows.new.items) }
+    ensures first { OnErr result
+        ((count : ℕ) × HasAddedRows
+        (AreSingles (checked_by view.now) (take count ids.now)) rows.old.items rows.new.items) }
 {
     let enough = enough_alone(view);
     for id in ids {
@@ -139,7 +146,7 @@ pub fn push_singles(
     Ok(())
 }
 
-/// The rows of the changed items in these tiles, in order. A ledger of the type `L` counts the steps.
+/// The rows of what changed, with a blank for the count of the steps that they take.
 fn rows_counted<L: Ledger>(
     alloc: Global,
     view: &CheckView,
@@ -156,9 +163,9 @@ fn rows_counted<L: Ledger>(
     requires sound { IsSoundIndex index.now }
     requires tiles { IsStrictlyIncreasing tiles.now }
     requires changed { IsStrictlyIncreasing changed.now }
-    ensures { IfOk result (λ rows.
-        AreRowsWhere (IsOfChanged
-        (checked_by view.now) index.now tiles.now changed.now) rows.items) }
+    ensures { IfOk result
+        (λ rows. AreRowsWhere
+        (IsOfChanged (checked_by view.now) index.now tiles.now changed.now) rows.items) }
 {
     let mut steps: Steps<L> = Steps::new(blank);
     let mut rows = rows_of_tiles(alloc, view, index, tiles, changed, &mut steps)?;
@@ -183,12 +190,11 @@ pub fn rows_of_changed(
     requires index { IsIndexOf (checked_by view.now) index.now }
     requires tiles { IsStrictlyIncreasing tiles.now }
     requires changed { IsStrictlyIncreasing changed.now }
-    ensures { IfOk result (λ rows.
-        AreRowsWhere (IsOfChanged
-        (checked_by view.now) index.now tiles.now changed.now) rows.items) }
+    ensures { IfOk result
+        (λ rows. AreRowsWhere
+        (IsOfChanged (checked_by view.now) index.now tiles.now changed.now) rows.items) }
 {
-    // the index says here that it is sound
-    let _ = index.near(0);
+    soundness(index);
     rows_counted::<Brand>(alloc, view, index, tiles, changed, Blank::new(1))
 }
 

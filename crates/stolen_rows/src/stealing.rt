@@ -1,18 +1,19 @@
 //! Tiles that are tested by workers who steal them from each other.
 
-ghost use Rattle.std.specs.Prelude.{◌≡◌, ◌+◌, ◌<◌, ◌≤◌, length, IfOk};
+ghost use Rattle.std.specs.Prelude.{◌≡◌, ◌+◌, ◌≤◌, length, IfOk};
 ghost use Rattle.std.specs.List.{AllZip};
 ghost use Rattle.std.specs.List.Sorted.{IsStrictlyIncreasing};
+ghost use Rattle.plain_types.specs.Limits.{IsWorkerCount, most_tiles};
 ghost use Rattle.pair_check.specs.CheckViews.{checked_by, IsWholeView};
 ghost use Rattle.row_check.specs.RowsOfTile.{IsIndexOf, AreRowsOfTile};
 ghost use Rattle.steal_pool.specs.StolenViews.{stolen_tiles, stolen_hands};
 
-use kept_rows::TileRows;
+use row_check::TileRows;
 use std::alloc::{AllocError, Global};
 use std::thread::Threads;
 use steal_pool::{Stolen, run_stolen};
 use tile_pool::Gate;
-use tile_rows::Tiles;
+use tile_rows::{AskedTiles, Tiles};
 
 /// The rows of tiles, and which seat took which tiles.
 #[derive(Drop)]
@@ -30,20 +31,22 @@ pub(crate) fn steal_tiles<R: Threads + Sync, G: Gate>(
     work: Tiles<'_>,
     gate: &G,
 ) -> Result<StolenTiles, AllocError>
-    requires workers { (0 < workers) × (workers ≤ 64) }
+    requires workers { IsWorkerCount workers }
     requires view { IsWholeView work.view }
     requires index { IsIndexOf (checked_by work.view) work.index.now }
     requires changed { IsStrictlyIncreasing work.changed.now }
-    requires few { length work.tiles.now ≤ 15625 }
-    ensures rows { IfOk result (λ r.
-        AllZip (λ tile batch.
-        AreRowsOfTile (checked_by work.entry.view) work.entry.index.now tile work.entry.changed.now
-        batch) work.entry.tiles.now r.batches.items) }
-    ensures hands { IfOk result (λ r. (stolen_tiles r.stolen ≡ length work.entry.tiles.now)
+    requires few { length work.tiles.now ≤ most_tiles }
+    ensures rows { IfOk result
+        (λ r. AllZip (λ tile batch. AreRowsOfTile
+        (checked_by work.entry.view) work.entry.index.now tile work.entry.changed.now batch)
+        work.entry.tiles.now r.batches.items) }
+    ensures hands { IfOk result
+        (λ r. (stolen_tiles r.stolen ≡ length work.entry.tiles.now)
         × (length (stolen_hands r.stolen) ≡ workers + 1)) }
 {
     let count = work.tiles.len() as u32;
-    let (batches, stolen) = run_stolen(rt, alloc, workers, count, &work, gate)?;
+    let asked = AskedTiles::of(work);
+    let (batches, stolen) = run_stolen(rt, alloc, workers, count, &asked, gate)?;
     Ok(StolenTiles { batches, stolen })
 }
 

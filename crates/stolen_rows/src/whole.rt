@@ -1,6 +1,7 @@
 //! All rows of a board.
 
-ghost use Rattle.std.specs.Prelude.{◌≡◌, ◌+◌, ◌<◌, ◌≤◌, length, IfOk};
+ghost use Rattle.std.specs.Prelude.{◌≡◌, ◌+◌, length, IfOk};
+ghost use Rattle.plain_types.specs.Limits.{IsWorkerCount};
 ghost use Rattle.pair_check.specs.CheckViews.{checked_by, IsWholeView};
 ghost use Rattle.pair_check.specs.Rows.{AreRows};
 ghost use Rattle.row_check.specs.RowsOfTile.{IsIndexOf};
@@ -12,7 +13,7 @@ use board_index::index_of;
 use board_items::Board;
 use box_index::TileIndex;
 use item_facts::{all_facts, reach};
-use kept_rows::whole_board_rows;
+use kept_rows::all_rows;
 use net_class::Classes;
 use row_check::{CheckView, Row, ids_of};
 use std::alloc::{AllocError, Global};
@@ -30,7 +31,7 @@ fn steal_all<R: Threads + Sync, G: Gate>(
     index: &TileIndex,
     gate: &G,
 ) -> Result<(Vec<Row>, Stolen), AllocError>
-    requires workers { (0 < workers) × (workers ≤ 64) }
+    requires workers { IsWorkerCount workers }
     requires view { IsWholeView view }
     requires index { IsIndexOf (checked_by view) index.now }
     ensures rows { IfOk result (λ r. AreRows (checked_by view.entry) r.0.items) }
@@ -45,7 +46,7 @@ fn steal_all<R: Threads + Sync, G: Gate>(
         changed: &ids,
     };
     let StolenTiles { batches, stolen } = steal_tiles(rt, alloc, workers, work, gate)?;
-    let rows = whole_board_rows(alloc, &view, index, &ids, &tiles, &batches)?;
+    let rows = all_rows(alloc, &view, index, &ids, &tiles, &batches)?;
     Ok((rows, stolen))
 }
 
@@ -60,7 +61,7 @@ pub fn rows_by_stealing<R: Threads + Sync, G: Gate>(
     classes: &Classes,
     gate: &G,
 ) -> Result<Vec<Row>, AllocError>
-    requires { (0 < workers) × (workers ≤ 64) }
+    requires { IsWorkerCount workers }
     ensures { IfOk result (λ rows. AreRows (unruled board.now classes.now) rows.items) }
 {
     let facts = all_facts(alloc, board, classes)?;

@@ -16,7 +16,9 @@ use Rattle.drc_io.proofs.name.Name.TheSendSync as name
 use Rattle.net_class.proofs.classes.Classes.TheSendSync as classes
 use Rattle.rule_pick.proofs.facts_by_id.FactsById.TheSendSync as facts
 use Rattle.pair_check.specs.contracts.view.CheckView as CheckView
+use Rattle.row_check.proofs.asks.PairAsks.TheSendSync as asks
 use Rattle.tile_rows.specs.contracts.work.Tiles as Tiles
+use Rattle.tile_rows.specs.contracts.work.AskedTiles as AskedTiles
 
 pub rule_crosses : IsSync Rule.the_row
 rule_crosses =
@@ -41,7 +43,9 @@ view_crosses a = struct_sync (shape (CheckView.the_type a)) (shr_sync _ _ _ boar
 number_crosses : IsSync u32
 number_crosses = plain_sync _ _ _ _ _
 
-pub tiles_cross : (a : NamedLft) → IsSync (Tiles.the_row a)
+tiles_cross : (a : NamedLft) → IsSync (Tiles.the_field a).row
 tiles_cross a =
-    recorded_sync (Tiles.the_field a).row _ _ (Tiles.the_type a).to_one
-    (struct_sync (shape (Tiles.the_type a)) (view_crosses a, (shr_sync _ _ _ index.the_sync, (shr_slice_sync _ _ _ number_crosses, (shr_slice_sync _ _ _ number_crosses, tt)))))
+    struct_sync (shape (Tiles.the_type a)) (view_crosses a, (shr_sync _ _ _ index.the_sync, (shr_slice_sync _ _ _ number_crosses, (shr_slice_sync _ _ _ number_crosses, tt))))
+
+pub asked_cross : (a : NamedLft) → IsSync (AskedTiles.the_row a)
+asked_cross a = recorded_sync (AskedTiles.the_field a).row _ _ (AskedTiles.the_type a).to_one (struct_sync (shape (AskedTiles.the_type a)) (tiles_cross a, (asks.the_field_sync, tt)))

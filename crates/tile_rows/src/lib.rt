@@ -6,4 +6,4 @@ mod testing;
 mod work;
 
 pub use testing::test_tiles;
-pub use work::Tiles;
+pub use work::{AskedTiles, Tiles};

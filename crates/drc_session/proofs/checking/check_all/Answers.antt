@@ -8,11 +8,11 @@ use Rattle.drc_session.proofs.checking.check_all.Goals as goal
 pub test_tiles-requires-clause-few : goal.test_tiles-requires-clause-few
 test_tiles-requires-clause-few g c κs within = few_tiles c.args.index.now [] true c.deref.result.now (c.deref.ensures.value ∙ c.in_ok-tiles.ensures.tiles)
 
-pub whole_board_rows-requires-clause-enough : goal.whole_board_rows-requires-clause-enough
-whole_board_rows-requires-clause-enough g c = all_enough c.args.index.now c.deref-3.result.now c.deref-4.result.now (c.deref-4.ensures.value ∙ c.in_ok-tiles.ensures.tiles)
+pub all_rows-requires-clause-enough : goal.all_rows-requires-clause-enough
+all_rows-requires-clause-enough g c = all_enough c.args.index.now c.deref-3.result.now c.deref-4.result.now (c.deref-4.ensures.value ∙ c.in_ok-tiles.ensures.tiles)
 
-pub whole_board_rows-requires-clause-batches : goal.whole_board_rows-requires-clause-batches
-whole_board_rows-requires-clause-batches g c =
+pub all_rows-requires-clause-batches : goal.all_rows-requires-clause-batches
+all_rows-requires-clause-batches g c =
     let view = c.args.view in
     let index = c.args.index.now in
     zip_alike (λ changed tile batch. AreRowsOfTile (checked_by view) index tile changed batch) c.deref-2.result.now c.deref-3.result.now c.deref.result.now c.deref-4.result.now c.in_ok-batches.batches.items c.deref-5.result.now

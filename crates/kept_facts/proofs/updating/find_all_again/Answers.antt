@@ -4,7 +4,7 @@ use Rattle.row_check.proofs.TileRows.{in_changed, changed_in}
 use Rattle.kept_facts.specs.ConcernedItems.{AreFoundAgain}
 use Rattle.kept_facts.proofs.Again.{again_more, again_skip}
 use Rattle.kept_facts.proofs.updating.find_all_again.Goals as goal
-use Rattle.kept_facts.proofs.updating.find_all_again.Goals.{then-differs+in_ok-push, then-differs-via-then-differs, then-differs-via-else-differs+then-is_among, else-differs+else-is_among}
+use Rattle.kept_facts.proofs.updating.find_all_again.Goals.{then-differs+in_ok-push, then-differs-via-then-differs, then-differs-via-else-differs+then-is_changed, else-differs+else-is_changed}
 
 pub loop-place-preserved : goal.loop-place-preserved
 loop-place-preserved c =
@@ -22,10 +22,10 @@ loop-place-preserved c =
             (again_more board classes ids asked at.place _ lt (get_or_default asked at.place _ _ lt) c.requires.asked c.args.facts.now at.facts after at.changed.items at.invariant.1 c.in_ok-differs.differs found
             (elim w.then-differs.branch [
               | then-differs-via-then-differs w' ↦ inl w'.if-differs.true
-              | then-differs-via-else-differs+then-is_among w' ↦ inr (changed_in ids _ (sym w'.is_among.ensures ∙ w'.if-is_among.true))
+              | then-differs-via-else-differs+then-is_changed w' ↦ inr (changed_in ids _ (sym w'.is_changed.ensures ∙ w'.if-is_changed.true))
             ]))
-        | else-differs+else-is_among w ↦ subst (λ (changed : List ℕ). AreFoundAgain board classes ids (take (at.place + 1) asked) c.args.facts.now after changed) (sym (ap (λ v. v.items) w.changed-is))
+        | else-differs+else-is_changed w ↦ subst (λ (changed : List ℕ). AreFoundAgain board classes ids (take (at.place + 1) asked) c.args.facts.now after changed) (sym (ap (λ v. v.items) w.changed-is))
             (again_skip board classes ids asked at.place _ lt (get_or_default asked at.place _ _ lt) c.requires.asked c.args.facts.now at.facts after at.changed.items at.invariant.1 c.in_ok-differs.differs found w.if-differs.false
-            (λ h. true≢false (sym (in_changed ids _ h) ∙ (sym w.is_among.ensures ∙ w.if-is_among.false))))
+            (λ h. true≢false (sym (in_changed ids _ h) ∙ (sym w.is_changed.ensures ∙ w.if-is_changed.false))))
       ],
     )

@@ -6,5 +6,5 @@ pub returns-then-are_apart-clause-rows : goal.returns-then-are_apart-clause-rows
 returns-then-are_apart-clause-rows g c =
     let a = c.args in
     let r = c.requires in
-    no_rows_apart (checked_by a.tested.now.view.now) a.tested.now.of_copper.nm r.of_copper a.first.now a.second.now a.one a.other r.first r.second r.first_is r.second_is r.ordered r.first_there r.second_there (c.are_apart.ensures c.if-are_apart.true)
+    no_rows_apart (checked_by a.tested.now.view.now) a.tested.now.asks.of_copper.nm r.asks.of_copper a.first.now a.second.now a.one a.other r.first r.second r.first_is r.second_is r.ordered r.first_there r.second_there (c.are_apart.ensures c.if-are_apart.true)
     a.row_sink.now.rows.items

@@ -4,11 +4,11 @@ use Rattle.std.proofs.lemmas.Result.{IfOk-weaker}
 use Rattle.pair_check.specs.CheckViews.{checked_by}
 use Rattle.row_check.specs.RowsOfTile.{AreRowsOfTile}
 use Rattle.tile_rows.proofs.Answered.{zip_answers}
-use Rattle.tile_rows.proofs.Crossing.{tiles_cross}
+use Rattle.tile_rows.proofs.Crossing.{asked_cross}
 use Rattle.tile_rows.proofs.testing.test_tiles.Goals as goal
 
 pub run_tiles-requires-sync-T : goal.run_tiles-requires-sync-T
-run_tiles-requires-sync-T g c κs within = param_sync 1 _ (arg_sync _ no _ (tiles_cross _))
+run_tiles-requires-sync-T g c κs within = param_sync 1 _ (arg_sync _ no _ (asked_cross _))
 
 pub returns-clause-rows : goal.returns-clause-rows
 returns-clause-rows g c =

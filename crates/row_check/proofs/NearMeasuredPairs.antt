@@ -12,8 +12,8 @@ use Rattle.copper_layers.specs.Layers.{has_layer}
 use Rattle.board_items.specs.CopperPairs.{on_layer, SomeMeet, Keeps}
 use Rattle.board_items.specs.ItemParts.{parts_of, hole_parts, kind_parts}
 use Rattle.cond_lang.specs.declared.kind.Kind.{Kind}
-use Rattle.kind_subjects.specs.declared.subject.Faces.{Faces}
-use Rattle.kind_subjects.specs.declared.subject.Faces.TheVariants.{Coppers, HolesAndCopper, Holes, EdgesAndCopper, Yards, Areas}
+use Rattle.kind_subjects.specs.declared.subject.OperandKinds.{OperandKinds}
+use Rattle.kind_subjects.specs.declared.subject.OperandKinds.TheVariants.{Coppers, HolesAndCopper, Holes, EdgesAndCopper, Yards, Areas}
 use Rattle.kind_subjects.specs.declared.subject.Subject.{Subject}
 use Rattle.kind_subjects.specs.declared.subject.Subject.TheVariants.{Sides, Length, Whole}
 use Rattle.kind_subjects.specs.Subjects.{subject_of}
@@ -21,7 +21,7 @@ use Rattle.rule_pick.specs.FactsOf.{placed_parts, parts_asked}
 use Rattle.item_copper.proofs.Far.{IsFar}
 use Rattle.kind_subjects.specs.declared.layer.RowLayer.{RowLayer}
 use Rattle.kind_subjects.specs.declared.layer.RowLayer.TheVariants.{Copper, FrontYard, BackYard, Nowhere}
-use Rattle.kind_subjects.specs.Facing.{Facing, facing, copper_on, hole_on, hole_without, hole_alone, lines_of, front_of, back_of, area_on, yard_on, placed_on, faced, facings_in, facings, MeetAt, KeepAt}
+use Rattle.kind_subjects.specs.MeasuredPair.{MeasuredPair, measured_pair, copper_on, hole_on, hole_without, hole_alone, lines_of, front_of, back_of, area_on, yard_on, placed_on, faced, measured_pairs_in, measured_pairs, MeetAt, KeepAt}
 
 -- ---- parts of one item
 module _ (P : Part → Type 0) where
@@ -146,25 +146,25 @@ module _ (P : Part → Type 0) where
 -- ---- what faces each other
 module _ (P Q : Part → Type 0) (a b : Item) (all_a : All P (parts_of a)) (all_b : All Q (parts_of b)) where
   -- parts of the one item face parts of the other
-  abbrev Between : Facing → Type 0
+  abbrev Between : MeasuredPair → Type 0
   Between f = (All P f.own × All Q f.others) ⊎ (All Q f.own × All P f.others)
 
   none : All Between []
   none = All-nil Between
 
-  there : (own others : List Part) → All P own → All Q others → All Between (facing own others ∷ [])
-  there own others h k = All-cons Between (facing own others) [] (inl (h, k)) none
+  there : (own others : List Part) → All P own → All Q others → All Between (measured_pair own others ∷ [])
+  there own others h k = All-cons Between (measured_pair own others) [] (inl (h, k)) none
 
-  both : (own_of_a of_b own_of_b of_a : List Part) → All P own_of_a → All Q of_b → All Q own_of_b → All P of_a → All Between (facing own_of_a of_b ∷ facing own_of_b of_a ∷ [])
-  both own_of_a of_b own_of_b of_a h k l m = All-cons Between (facing own_of_a of_b) (facing own_of_b of_a ∷ []) (inl (h, k)) (All-cons Between (facing own_of_b of_a) [] (inr (l, m)) none)
+  both : (own_of_a of_b own_of_b of_a : List Part) → All P own_of_a → All Q of_b → All Q own_of_b → All P of_a → All Between (measured_pair own_of_a of_b ∷ measured_pair own_of_b of_a ∷ [])
+  both own_of_a of_b own_of_b of_a h k l m = All-cons Between (measured_pair own_of_a of_b) (measured_pair own_of_b of_a ∷ []) (inl (h, k)) (All-cons Between (measured_pair own_of_b of_a) [] (inr (l, m)) none)
 
-  coppers : (layer : ℕ) → All Between (facing (copper_on layer a) (copper_on layer b) ∷ [])
+  coppers : (layer : ℕ) → All Between (measured_pair (copper_on layer a) (copper_on layer b) ∷ [])
   coppers layer = there (copper_on layer a) (copper_on layer b) (on_copper P a all_a layer) (on_copper Q b all_b layer)
 
-  holes : (layer : ℕ) → All Between (facing (hole_on layer a) (copper_on layer b) ∷ facing (hole_on layer b) (copper_on layer a) ∷ [])
+  holes : (layer : ℕ) → All Between (measured_pair (hole_on layer a) (copper_on layer b) ∷ measured_pair (hole_on layer b) (copper_on layer a) ∷ [])
   holes layer = both (hole_on layer a) (copper_on layer b) (hole_on layer b) (copper_on layer a) (on_hole P a all_a layer) (on_copper Q b all_b layer) (on_hole Q b all_b layer) (on_copper P a all_a layer)
 
-  faced_between : (faces : Faces) (layer : RowLayer) → All Between (faced faces layer a b)
+  faced_between : (operand_kinds : OperandKinds) (layer : RowLayer) → All Between (faced operand_kinds layer a b)
   faced_between Coppers (Copper layer) = coppers layer
   faced_between HolesAndCopper (Copper layer) = holes layer
   faced_between Holes Nowhere = there (hole_parts a.hole) (hole_parts b.hole) (hole P a all_a) (hole Q b all_b)
@@ -177,12 +177,12 @@ module _ (P Q : Part → Type 0) (a b : Item) (all_a : All P (parts_of a)) (all_
       both (area_on layer a.what) (placed_on layer b b.what) (area_on layer b.what) (placed_on layer a a.what) (areas P a all_a layer) (seen Q b all_b layer) (areas Q b all_b layer) (seen P a all_a layer)
   faced_between _ _ = none
 
-  facings_between : (kind : Kind) (layer : RowLayer) → All Between (facings kind layer a b)
-  unfolding facings
-  facings_between kind layer = by (subject_of kind)
+  measured_pairs_between : (kind : Kind) (layer : RowLayer) → All Between (measured_pairs kind layer a b)
+  unfolding measured_pairs
+  measured_pairs_between kind layer = by (subject_of kind)
     where
-      by : (subject : Subject) → All Between (facings_in subject layer a b)
-      by (Sides faces) = faced_between faces layer
+      by : (subject : Subject) → All Between (measured_pairs_in subject layer a b)
+      by (Sides operand_kinds) = faced_between operand_kinds layer
       by (Length measure) = none
       by Whole = none
 
@@ -191,17 +191,17 @@ module _ (P Q : Part → Type 0) (a b : Item) (all_a : All P (parts_of a)) (all_
     far_lists : (R S : Part → Type 0) → ((p q : Part) → R p → S q → IsFar v p q) → (own others : List Part) → All R own → All S others → All (λ p. All (λ q. IsFar v p q) others) own
     far_lists R S is own others h k = All-weaker R (λ p. All (λ q. IsFar v p q) others) (λ p r. All-weaker S (IsFar v p) (λ q s. is p q r s) others k) own h
 
-    abbrev AllFar : Facing → Type 0
+    abbrev AllFar : MeasuredPair → Type 0
     AllFar f = All (λ p. All (λ q. IsFar v p q) f.others) f.own
 
-    faced_far : (f : Facing) → Between f → AllFar f
+    faced_far : (f : MeasuredPair) → Between f → AllFar f
     faced_far f (inl h) = far_lists P Q far f.own f.others h.0 h.1
     faced_far f (inr h) = far_lists Q P (λ q p s r. back p q r s) f.own f.others h.0 h.1
 
-    far_keeps : (f : Facing) → Between f → Keeps f.own f.others v
+    far_keeps : (f : MeasuredPair) → Between f → Keeps f.own f.others v
     far_keeps f h = inr (record { each = All-weaker (λ p. All (λ q. IsFar v p q) f.others) (λ p. All (λ q. Apart p.shape q.shape (pos 2 *ℤ v)) f.others) (λ p a. All-weaker (IsFar v p) (λ q. Apart p.shape q.shape (pos 2 *ℤ v)) (λ q x. x.apart) f.others a) f.own (faced_far f h) })
 
-    far_meets : (f : Facing) → Between f → SomeMeet f.own f.others → ⊥
+    far_meets : (f : MeasuredPair) → Between f → SomeMeet f.own f.others → ⊥
     far_meets f h m =
         let one = m.some in
         let other = one.4 in
@@ -210,7 +210,7 @@ module _ (P Q : Part → Type 0) (a b : Item) (all_a : All P (parts_of a)) (all_
         x.no_meeting other.4
 
     pub all_kept : (kind : Kind) (layer : RowLayer) → KeepAt kind layer a b v
-    all_kept kind layer = All-weaker Between (λ f. Keeps f.own f.others v) far_keeps (facings kind layer a b) (facings_between kind layer)
+    all_kept kind layer = All-weaker Between (λ f. Keeps f.own f.others v) far_keeps (measured_pairs kind layer a b) (measured_pairs_between kind layer)
 
     pub none_meet : (kind : Kind) (layer : RowLayer) → MeetAt kind layer a b → ⊥
-    none_meet kind layer m = far_meets m.1 (subst Between m.3 (facings_between kind layer m.0 m.1 m.2)) m.4
+    none_meet kind layer m = far_meets m.1 (subst Between m.3 (measured_pairs_between kind layer m.0 m.1 m.2)) m.4

@@ -3,7 +3,7 @@ use Rattle.pair_check.specs.PlainRow.{PlainRow}
 use Rattle.pair_check.specs.Rows.{AreRows}
 use Rattle.pair_check.specs.CheckViews.{checked_by}
 use Rattle.kept_rows.proofs.Updated.{emptied, from_nothing, nothing_before}
-use Rattle.kept_rows.proofs.updating.whole_board_rows.Goals as goal
+use Rattle.kept_rows.proofs.updating.all_rows.Goals as goal
 
 pub returns : goal.returns
 returns c =
