@@ -50,8 +50,8 @@ fn push_tile<L: Ledger>(
     requires index { IsIndexOf (checked_by view.now) index.now }
     requires changed { IsStrictlyIncreasing changed.now }
     ensures { OnOk result
-        (HasAddedRows (AreRowsOfTile (checked_by view.now) index.now tile changed.now) rows.old.items
-        rows.new.items) }
+        (HasAddedRows (AreRowsOfTile (checked_by view.now) index.now tile changed.now)
+        rows.old.items rows.new.items) }
 {
     let alloc = *rows.allocator();
     let found = test_tile_by(alloc, view, asks, index, tile, changed, steps)?;
