@@ -1,4 +1,5 @@
-//! Numbers of the usual spelling: at most eight digits before the point and six behind it, with no exponent.
+//! Numbers of the usual spelling: at most eight digits before the point and six behind it, with no exponent. All is inlined
+//! into the two callers, so that no answer goes through memory.
 
 ghost use Rattle.std.specs.Prelude.{◌≡◌, ◌<◌, ◌≤◌, ◌*◌, ◌^◌, [], length, drop, IsSome, IfSome};
 ghost use Rattle.exact_dec.specs.Computed.{prefix_digits, after_digits, point_digits, after_point};

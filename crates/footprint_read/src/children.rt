@@ -236,7 +236,10 @@ pub(crate) fn contents_of(
 {
     let mut contents = Contents::new(alloc);
     for part in node.children() {
-        add_child(alloc, board, unit, head, &mut contents, part)?;
+        if let Err(error) = add_child(alloc, board, unit, head, &mut contents, part) {
+            drop(contents);
+            return Err(error);
+        }
     }
     Ok(contents)
 }

@@ -79,6 +79,7 @@ fn figure_parts(
     let mut parts = SmallVec::new(alloc);
     for drawing in drawings {
         if !draw_into(alloc, layers, placement, drawing, &mut parts)? {
+            drop(parts);
             return Ok(None);
         }
     }
@@ -136,12 +137,26 @@ fn court_by(alloc: Global, placement: Placement, side: &CourtSide) -> Result<Cou
     if !is_closed(alloc, side.lines.as_slice())? {
         return Ok(Court::Unchecked);
     }
-    let Some(mut parts) = figure_parts(alloc, placement, side.drawings.as_slice())? else {
-        return Ok(Court::Off);
-    };
     let Some(segs) = segs_of(alloc, side.lines.as_slice())? else {
         return Ok(Court::Off);
     };
-    append_outlines(&mut parts, closed_outlines(alloc, &segs)?)?;
-    Ok(Court::Parts(Parts::of(parts)))
+    let polys = closed_outlines(alloc, &segs)?;
+    let mut parts = match figure_parts(alloc, placement, side.drawings.as_slice()) {
+        Ok(Some(parts)) => parts,
+        Ok(None) => {
+            drop(polys);
+            return Ok(Court::Off);
+        }
+        Err(error) => {
+            drop(polys);
+            return Err(error);
+        }
+    };
+    match append_outlines(&mut parts, polys) {
+        Ok(()) => Ok(Court::Parts(Parts::of(parts))),
+        Err(error) => {
+            drop(parts);
+            Err(error)
+        }
+    }
 }

@@ -311,7 +311,10 @@ fn in_capacity(
 ) -> Result<Vec<Item>, BoardError>
     ensures { GivesItems result (in_capacity board.now unit all.items) }
 {
-    check_capacity(board, unit, &all)?;
+    if let Err(error) = check_capacity(board, unit, &all) {
+        drop(all);
+        return Err(error);
+    }
     Ok(items_of(alloc, all)?)
 }
 

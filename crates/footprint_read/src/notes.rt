@@ -22,15 +22,20 @@ pub(crate) fn note_on(
     ensures { IfOk result (λ note.
         note ≡ note_of (name_in (tree_of node.entry)) unit about layer.now) }
 {
-    let name = name_of_list(alloc, node)?;
     let layer = Boxed::new(alloc, Name::from_slice(alloc, layer.as_bytes())?)?;
     let at = RawPoint { x: 0, y: 0 };
-    Ok(plain_item(
-        name,
-        unit,
-        0,
-        at,
-        no_parts(alloc),
-        What::Note { about, layer },
-    ))
+    match name_of_list(alloc, node) {
+        Ok(name) => Ok(plain_item(
+            name,
+            unit,
+            0,
+            at,
+            no_parts(alloc),
+            What::Note { about, layer },
+        )),
+        Err(error) => {
+            drop(layer);
+            Err(error)
+        }
+    }
 }

@@ -80,16 +80,23 @@ fn copper_of(
     };
     let mut list = SmallVec::new(alloc);
     list.push_reserved(Part { layers, shape });
-    if !draw_all(
+    match draw_all(
         alloc,
         layers,
         placement,
         form.primitives.as_slice(),
         &mut list,
-    )? {
-        return Ok(None);
+    ) {
+        Ok(true) => Ok(Some(Parts::of(list))),
+        Ok(false) => {
+            drop(list);
+            Ok(None)
+        }
+        Err(error) => {
+            drop(list);
+            Err(error)
+        }
     }
-    Ok(Some(Parts::of(list)))
 }
 
 /// The middle of the copper of a pad: its offset is turned with it.

@@ -59,6 +59,7 @@ fn primitive_by(
     };
     let drawing = drawing_of(alloc, kind, node)?;
     if is_ring(&drawing) {
+        drop(drawing);
         return Err(BoardError::Ring { at: place(pad) });
     }
     Ok(one(alloc, drawing)?)
@@ -138,7 +139,10 @@ fn primitives_in(
 {
     let mut drawings = Vec::new(alloc);
     for part in list.children() {
-        take_primitive(alloc, pad, part, &mut drawings)?;
+        if let Err(error) = take_primitive(alloc, pad, part, &mut drawings) {
+            drop(drawings);
+            return Err(error);
+        }
     }
     Ok(drawings)
 }

@@ -78,9 +78,20 @@ fn pad_item(
         item ≡ tested (local_fits label.local) (pad_item label at copper hole)) }
 {
     if !local_fits(label.local) {
+        drop(label);
+        drop(copper);
+        drop(hole);
         return Ok(None);
     }
-    let what = pad_what(alloc, label.number, label.reference)?;
+    let what = match pad_what(alloc, label.number, label.reference) {
+        Ok(what) => what,
+        Err(error) => {
+            drop(label.name);
+            drop(copper);
+            drop(hole);
+            return Err(error);
+        }
+    };
     Ok(Some(Item {
         name: label.name,
         unit: label.unit,
@@ -108,13 +119,30 @@ fn pad_with(
     ensures { IfOk result (λ item. item ≡ pad_with label frame.at
         (frame_copper layers frame form.now) (frame_hole copper frame)) }
 {
-    let Some(parts) = frame_copper(alloc, layers, frame, form)? else {
-        return Ok(None);
+    let parts = match frame_copper(alloc, layers, frame, form) {
+        Ok(Some(parts)) => parts,
+        Ok(None) => {
+            drop(label);
+            return Ok(None);
+        }
+        Err(error) => {
+            drop(label);
+            return Err(error);
+        }
     };
-    let Some(hole) = frame_hole(alloc, copper, frame)? else {
-        return Ok(None);
-    };
-    pad_item(alloc, label, frame.at, parts, hole)
+    match frame_hole(alloc, copper, frame) {
+        Ok(Some(hole)) => pad_item(alloc, label, frame.at, parts, hole),
+        Ok(None) => {
+            drop(label);
+            drop(parts);
+            Ok(None)
+        }
+        Err(error) => {
+            drop(label);
+            drop(parts);
+            Err(error)
+        }
+    }
 }
 
 /// The pad, unless it leaves the board or a size of it or of a primitive is above 500 mm.
@@ -131,6 +159,7 @@ fn placed(
     ensures { IfOk result (λ item. item ≡ placed copper layers label frame form.now) }
 {
     if !(frame_fits(frame) && primitives_fit(form.primitives.as_slice())) {
+        drop(label);
         return Ok(None);
     }
     pad_with(alloc, label, copper, layers, frame, form)

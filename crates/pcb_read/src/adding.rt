@@ -69,6 +69,7 @@ pub(crate) fn add_one(
         Err(error) => Err(error),
         Ok(item) => {
             if board.left() == 0 || unit == u32::MAX {
+                drop(item);
                 return Err(BoardError::TooMany { at: place(node) });
             }
             add_item(board, item)

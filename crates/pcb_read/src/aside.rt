@@ -140,6 +140,7 @@ fn read_slot(
         return read_part(alloc, board, layered, node);
     };
     if !holds(board, copper, &draft) {
+        drop(draft);
         return read_part(alloc, board, layered, node);
     }
     let unit = board.next_unit();

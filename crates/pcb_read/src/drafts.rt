@@ -107,6 +107,9 @@ pub(crate) fn item_on(
     ensures read { Gives result (item_on board.now unit (tree_of node.entry) draft) }
     ensures ready { IfOk result (IsReady board.now unit) }
 {
-    check_net(board, node, draft.net)?;
+    if let Err(error) = check_net(board, node, draft.net) {
+        drop(draft);
+        return Err(error);
+    }
     item_of(alloc, unit, node, draft)
 }

@@ -48,6 +48,7 @@ fn in_capacity(
     ensures ready { IfOk result (λ items. AreReady board.now unit items.items) }
 {
     if !has_capacity(board, unit, &items) {
+        drop(items);
         return Err(BoardError::TooMany { at: place(node) });
     }
     Ok(items)

@@ -252,8 +252,13 @@ fn new_board(alloc: Global, root: Node<'_, '_>) -> Result<Board, BoardError>
     let mut board = Board::new(alloc, LayerSet { bits: 0 })?;
     // Most parts are items: room for about all of them is made once.
     let capacity = about_parts(root).min(board.left() as usize);
-    board.reserve(capacity)?;
-    Ok(board)
+    match board.reserve(capacity) {
+        Ok(()) => Ok(board),
+        Err(_) => {
+            drop(board);
+            Err(BoardError::OutOfMemory)
+        }
+    }
 }
 
 /// The board of the root and the spans of its units, or the first reason in the text why there is no board.
@@ -264,10 +269,18 @@ pub(crate) fn board_of(alloc: Global, root: Node<'_, '_>) -> Result<(Board, Span
 {
     let mut board = new_board(alloc, root)?;
     let mut layered = false;
-    let spans = read_parts(alloc, &mut board, &mut layered, root)?;
+    let spans = match read_parts(alloc, &mut board, &mut layered, root) {
+        Ok(spans) => spans,
+        Err(error) => {
+            drop(board);
+            return Err(error);
+        }
+    };
     if layered {
         Ok((board, Spans::of(spans)))
     } else {
+        drop(spans);
+        drop(board);
         Err(BoardError::Missing { at: place(root) })
     }
 }
@@ -285,10 +298,14 @@ pub(crate) fn board_by(
         board: new_board(alloc, root)?,
         layered: false,
     };
-    read_parts_by(rt, alloc, &mut read, root)?;
+    if let Err(error) = read_parts_by(rt, alloc, &mut read, root) {
+        drop(read);
+        return Err(error);
+    }
     if read.layered {
         Ok(read.board)
     } else {
+        drop(read);
         Err(BoardError::Missing { at: place(root) })
     }
 }

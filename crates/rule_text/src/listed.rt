@@ -34,7 +34,7 @@ pub(crate) fn list_of(alloc: Global, size: u32, root: Node<'_, '_>) -> Result<Ru
     match forms.next() {
         None => rules_of(alloc, RuleError::Version { at: size }, behind_head(list)),
         Some(more) => {
-            rules_of(alloc, bad(more), behind_head(list))?;
+            drop(rules_of(alloc, bad(more), behind_head(list))?);
             Err(bad(more))
         }
     }

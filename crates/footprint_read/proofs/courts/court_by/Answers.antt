@@ -12,6 +12,6 @@ pub closed_outlines-requires : goal.closed_outlines-requires
 closed_outlines-requires c =
     let lines = c.args.side.now.lines in
     let closed : is_closed lines ≡ true = cc (c.in_ok-is_closed.ensures, c.as_slice.ensures, c.if-not-branch.false) in
-    let told = c.in_ok-segs.ensures ∙ ap (λ (ls : List Course). segs_of ls) c.as_slice-3.ensures in
-    let segs : segs_of lines ≡ Some c.in-Some-2.segs.items = sym told ∙ ap (λ (o : Option (Vec Seg Global)). option_map (λ found. found.items) o) c.in-Some-2.is in
-    subst (λ (ss : List Seg). AreAllMatched ss) (sym c.deref.ensures.value) (closed_matched lines c.in-Some-2.segs.items closed segs)
+    let told = c.in_ok-segs.ensures ∙ ap (λ (ls : List Course). segs_of ls) c.as_slice-2.ensures in
+    let segs : segs_of lines ≡ Some c.in-Some.segs.items = sym told ∙ ap (λ (o : Option (Vec Seg Global)). option_map (λ found. found.items) o) c.in-Some.is in
+    subst (λ (ss : List Seg). AreAllMatched ss) (sym c.deref.ensures.value) (closed_matched lines c.in-Some.segs.items closed segs)

@@ -1,4 +1,4 @@
-use Rattle.std.proofs.Common.{refl, leb, cond, arith}
+use Rattle.std.proofs.Common.{refl, arith}
 use Rattle.std.proofs.lemmas.Simd.{length-chunk, zip2_splat}
 use lib.Lanes.{chunk}
 use Rattle.sexpr_read.specs.ByteClasses.{class_of, is_word}
