@@ -195,7 +195,7 @@ fn copy_body(
 }
 
 impl What {
-    /// An equal kind.
+    /// A copy of what the item is.
     pub(crate) fn copy(&self, alloc: Global) -> Result<What, AllocError>
         ensures { IfOk result (λ copy. copy ≡ self.now) }
     {

@@ -52,7 +52,7 @@ fn append_given(list: &mut Vec<Given>, more: Vec<Given>) -> Result<(), AllocErro
 }
 
 impl AllGiven {
-    /// No item.
+    /// An empty list of items.
     pub(crate) fn new(alloc: Global) -> AllGiven
         ensures { result ≡ [] }
     {

@@ -83,8 +83,8 @@ fn clear_end(poly: &Poly, low: usize, near: Bounds, d: i64) -> usize
     at
 }
 
-/// Where a run from `low` on ends of which each edge is apart from the segment, whose box is `near`; or
-/// `low` where some edge is not.
+/// The end of a run of edges from `low` on that all keep the distance `d` from the segment, whose box is `near`. It is `low` only
+/// where some edge of the polygon does not keep it.
 pub(crate) fn apart_until(poly: &Poly, low: usize, s: Seg, near: Bounds, d: i64) -> usize
     requires low { low < length poly.now }
     requires near { IsLeastBox (IsOn s) near }

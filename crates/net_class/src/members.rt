@@ -71,7 +71,7 @@ pub(crate) fn object_in<'j, 't>(
     object_if(member_in(object, name))
 }
 
-/// The list of a member.
+/// The value of the member of this name where it is a list, `None` without such a member; another value is refused.
 #[tactic(auto, unfolding(crate::specs::ProjectMembers::list_in))]
 pub(crate) fn list_in<'j, 't>(
     object: Option<Value<'j, 't>>,

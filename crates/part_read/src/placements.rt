@@ -43,7 +43,7 @@ pub(crate) fn point_stood(placement: Placement, raw_point: RawPoint) -> Option<P
     point_at(stand(placement, raw_point))
 }
 
-/// The points at all raw points of something that stands so, unless one lies off the board.
+/// The points on the board of all raw points of something that is placed so; `None` where one lies off the board.
 pub fn points_stood(
     alloc: Global,
     placement: Placement,
