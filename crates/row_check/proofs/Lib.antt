@@ -10,7 +10,7 @@ pub mod TileWalk
 pub mod OneList
 pub mod Sorting
 pub mod WholeRows
-pub mod NearFacings
+pub mod NearMeasuredPairs
 pub mod BlockLists
 pub mod TileEnds
 pub mod Singles

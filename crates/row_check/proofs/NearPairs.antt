@@ -18,11 +18,11 @@ use Rattle.item_copper.proofs.Far.{IsFar, far_in, far_back, each_lies, near_unle
 use Rattle.kind_subjects.specs.declared.layer.RowLayer.{RowLayer}
 use Rattle.pair_check.specs.PlainRow.{PlainRow}
 use Rattle.kind_subjects.specs.TriedLayers.{asked_layer}
-use Rattle.kind_subjects.specs.Facing.{MeetAt, KeepAt}
+use Rattle.kind_subjects.specs.MeasuredPair.{MeetAt, KeepAt}
 use Rattle.pair_check.specs.Pairs.{Deciders, Pair, IsPickOf, SaysNear, BreaksBy, Breaks}
 use Rattle.pair_check.specs.Rows.{Checked, deciders, IsRowOfTwo}
 use Rattle.pair_check.proofs.NearPicks.{local_at_most, class_at_most, least_at_most, pick_once}
-use Rattle.row_check.proofs.NearFacings.{all_kept, none_meet}
+use Rattle.row_check.proofs.NearMeasuredPairs.{all_kept, none_meet}
 
 -- ---- what a row of two says
 -- what is picked on its layer is not kept there
