@@ -386,8 +386,10 @@ fn is_faced(faced: &Faced<'_>) -> bool
 /// Whether anything faces anything. Shapes are not looked at.
 #[inline(always)]
 fn may_meet(measured_pairs: &MeasuredPairs<'_>) -> bool
-    ensures meet { result ≡ false → ¬ (SomeMeasuredPairMeets (measured_pairs_of measured_pairs.now)) }
-    ensures keep { result ≡ false → (v : ℤ) → AllMeasuredPairsKeep (measured_pairs_of measured_pairs.now) v }
+    ensures meet { result ≡ false → ¬
+        (SomeMeasuredPairMeets (measured_pairs_of measured_pairs.now)) }
+    ensures keep { result ≡ false → (v : ℤ) → AllMeasuredPairsKeep
+        (measured_pairs_of measured_pairs.now) v }
 {
     match measured_pairs {
         MeasuredPairs::Nothing => false,

@@ -51,7 +51,8 @@ fn layers_through(hole: &Option<Hole>) -> LayerSet
 /// The layers on which copper of both lies.
 #[inline(always)]
 fn shared_copper(a: &Item, b: &Item) -> LayerSet
-    ensures { (layer : ℕ) → IsUnfaced (measured_pair (copper_on layer a.now) (copper_on layer b.now))
+    ensures { (layer : ℕ) → IsUnfaced
+        (measured_pair (copper_on layer a.now) (copper_on layer b.now))
         ⊎ IsTrue (has_layer result layer) }
 {
     let own = layers_of(a.copper.as_slice());
@@ -71,9 +72,11 @@ fn holed_copper(a: &Item, b: &Item) -> LayerSet
 /// The layers of copper of one of them that the hole of the other goes through.
 #[inline(always)]
 fn holed_beside(a: &Item, b: &Item) -> LayerSet
-    ensures there { (layer : ℕ) → IsUnfaced (measured_pair (hole_on layer a.now) (copper_on layer b.now))
+    ensures there { (layer : ℕ) → IsUnfaced
+        (measured_pair (hole_on layer a.now) (copper_on layer b.now))
         ⊎ IsTrue (has_layer result layer) }
-    ensures back { (layer : ℕ) → IsUnfaced (measured_pair (hole_on layer b.now) (copper_on layer a.now))
+    ensures back { (layer : ℕ) → IsUnfaced
+        (measured_pair (hole_on layer b.now) (copper_on layer a.now))
         ⊎ IsTrue (has_layer result layer) }
 {
     let there = holed_copper(a, b);
