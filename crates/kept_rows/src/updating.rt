@@ -72,8 +72,7 @@ pub fn update_rows(
     requires changed { IsStrictlyIncreasing changed.now }
     requires enough { AreEnough index.now changed.now tiles.now }
     requires batches { AllZip (λ tile batch.
-        AreRowsOfTile (checked_by view.now) index.now tile changed.now batch) tiles.now batches.now
-        }
+        AreRowsOfTile (checked_by view.now) index.now tile changed.now batch) tiles.now batches.now }
     ensures { (old : Checked) → IsCheckChange old (checked_by view.now) changed.now
         → AreRows old rows.old.items → OnOk result (AreRows (checked_by view.now) rows.new.items) }
 {
