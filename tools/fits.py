@@ -410,7 +410,7 @@ class Finder:
         side = item.atom(layer, 1, 'layer') if layer else None
         if side is not None and side not in {'F.Cu', 'B.Cu'} & set(self.copper):
             item.tell('UnknownLayer', side.at, 'a footprint on %s' % side, 'layer')
-        at, angle = self.posture(item)
+        at, angle = self.position_and_angle(item)
         if angle is not None and not quarter(angle):
             item.tell('Turned', item.node.at, 'a footprint turned by %s degrees' % degrees(angle), 'turned-footprint')
         self.reference(item)
@@ -430,7 +430,7 @@ class Finder:
         item.leaves = item.leaves or at is not None and max(map(abs, at)) > FAR
         item.close()
 
-    def posture(self, item):
+    def position_and_angle(self, item):
         """the position and the angle of a footprint or a pad"""
         found = item.element('at')
         if not found:
@@ -479,7 +479,7 @@ class Finder:
             item.tell('PadShape', node.at, 'a pad of the shape %s' % shape, 'pad-shape')
         if node.first('chamfer'):
             item.tell('PadShape', node.at, 'a pad with corners cut off', 'pad-shape')
-        at, angle = self.posture(item)
+        at, angle = self.position_and_angle(item)
         if at:
             item.leaves = item.leaves or max(map(abs, placement(*at))) > FAR
         size = item.element('size')

@@ -15,7 +15,7 @@ use Rattle.drc_run.specs.declared.check.Break.{Break}
 use Rattle.drc_run.specs.declared.check.Break.TheVariants.{Unwritten}
 use Rattle.drc_run.specs.Reports.{AreFindings, report_text, refused_line, why_step}
 use Rattle.drc_run.specs.CommandOutputs.{IsStepTurn, unstepped, stepped}
-use Rattle.drc_run.specs.RunResults.{found_of, IsStepTaken, IsStepBroken, AreTaken, AreBroken, IsStepAnswered, wanting, line, AreStepsSoFar}
+use Rattle.drc_run.specs.RunResults.{found_of, IsStepTaken, IsStepBroken, AreTaken, AreBroken, IsStepAnswered, memory_ran_out, line, AreStepsSoFar}
 use Rattle.drc_run.proofs.Turning.{none_taken, more_taken, stopped_at, all_taken, one_longer}
 
 -- ---- one step
@@ -71,11 +71,11 @@ module _ (number : ℕ) (was is : PlainHistory) (step : PlainStep) (why : Histor
       record { next = past; is_past = subst (λ (x : PlainHistory). IsPastOf x past) (sym h.1) are; turn = unstepped why (h.0 past are) refl refl }
 
   pub refused_taken : IsStepAnswered number why old new m n b → IfOk b (λ _. IsStepTaken number was step is old new)
-  refused_taken (wanting w e k f) = subst (λ (x : Result (Unit {0}) Break). IfOk x (λ _. IsStepTaken number was step is old new)) (sym e) tt
+  refused_taken (memory_ran_out w e k f) = subst (λ (x : Result (Unit {0}) Break). IfOk x (λ _. IsStepTaken number was step is old new)) (sym e) tt
   refused_taken (line other r w e) = taken_by number was step is old new m n (refused_line number (why_step why)) (takes_none other) r b e w
 
   pub refused_runs : IsStepAnswered number why old new m n b → IfOk b (λ _. is.stopped ≡ false)
-  refused_runs (wanting w e k f) = subst (λ (x : Result (Unit {0}) Break). IfOk x (λ _. is.stopped ≡ false)) (sym e) tt
+  refused_runs (memory_ran_out w e k f) = subst (λ (x : Result (Unit {0}) Break). IfOk x (λ _. is.stopped ≡ false)) (sym e) tt
   refused_runs (line other r w e) = always b (ap (λ (x : PlainHistory). x.stopped) (refused_is was is step why runs other by).1 ∙ runs)
     where
       always : (x : Result (Unit {0}) Break) → is.stopped ≡ false → IfOk x (λ _. is.stopped ≡ false)
@@ -83,7 +83,7 @@ module _ (number : ℕ) (was is : PlainHistory) (step : PlainStep) (why : Histor
       always (Err e) h = tt
 
   pub refused_broken : IsStepAnswered number why old new m n b → IfErr b (λ _. IsStepBroken number was step old new)
-  refused_broken (wanting w e k f) = subst (λ (x : Result (Unit {0}) Break). IfErr x (λ _. IsStepBroken number was step old new)) (sym e) (inl k)
+  refused_broken (memory_ran_out w e k f) = subst (λ (x : Result (Unit {0}) Break). IfErr x (λ _. IsStepBroken number was step old new)) (sym e) (inl k)
   refused_broken (line other r w e) = broken_by number was step is old new m n (refused_line number (why_step why)) (takes_none other) r b e w
 
 -- of two things that hold where a call gave something, the first

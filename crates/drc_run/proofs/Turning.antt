@@ -22,7 +22,7 @@ use Rattle.drc_run.specs.Reports.{AreFindings, IsOpening, report_text, refused_l
 use Rattle.drc_run.specs.CommandOutputs.{AreTurns, IsTurn, refused}
 use Rattle.drc_run.specs.Output.{Output, status_of, IsStatusOf, IsToldBy, IsToldSoFarBy}
 use Rattle.drc_run.specs.RunEndings.{Whole, Prefix, Ends, number_of}
-use Rattle.drc_run.specs.RunResults.{found_of, IsTurnTaken, IsBroken, AreTaken, AreBroken, IsAnswered, IsEditAnswered, wanting, line, SoFar}
+use Rattle.drc_run.specs.RunResults.{found_of, IsTurnTaken, IsBroken, AreTaken, AreBroken, IsAnswered, IsEditAnswered, memory_ran_out, line, SoFar}
 use Rattle.drc_run.proofs.TurnLists.{one_more}
 use Rattle.drc_run.proofs.Written.{reporting}
 
@@ -57,11 +57,11 @@ module _ (short : Bool) (number : ℕ) (was is : PlainSession) (command : PlainC
   its_turn other = let h = refused_is was is command why runs other by in refused why h.0 (ap (λ (x : PlainSession). x.state) h.1) refl
 
   pub refused_taken : IsEditAnswered number why old new m n b → IfOk b (λ _. IsTurnTaken (IsTurn short) number was.state command is.state old new)
-  refused_taken (wanting w e k f) = subst (λ (x : Result (Unit {0}) Break). IfOk x (λ _. IsTurnTaken (IsTurn short) number was.state command is.state old new)) (sym e) tt
+  refused_taken (memory_ran_out w e k f) = subst (λ (x : Result (Unit {0}) Break). IfOk x (λ _. IsTurnTaken (IsTurn short) number was.state command is.state old new)) (sym e) tt
   refused_taken (line other r w e) = taken_by (IsTurn short) number was.state command is.state old new m n (refused_line number (why_edit why)) (its_turn other) r b e w
 
   pub refused_runs : IsEditAnswered number why old new m n b → IfOk b (λ _. is.stopped ≡ false)
-  refused_runs (wanting w e k f) = subst (λ (x : Result (Unit {0}) Break). IfOk x (λ _. is.stopped ≡ false)) (sym e) tt
+  refused_runs (memory_ran_out w e k f) = subst (λ (x : Result (Unit {0}) Break). IfOk x (λ _. is.stopped ≡ false)) (sym e) tt
   refused_runs (line other r w e) = always b (ap (λ (x : PlainSession). x.stopped) (refused_is was is command why runs other by).1 ∙ runs)
     where
       always : (x : Result (Unit {0}) Break) → is.stopped ≡ false → IfOk x (λ _. is.stopped ≡ false)
@@ -69,7 +69,7 @@ module _ (short : Bool) (number : ℕ) (was is : PlainSession) (command : PlainC
       always (Err e) h = tt
 
   pub refused_broken : IsEditAnswered number why old new m n b → IfErr b (λ _. Keeps old new ⊎ IsBroken (IsTurn short) number was.state command old new)
-  refused_broken (wanting w e k f) = subst (λ (x : Result (Unit {0}) Break). IfErr x (λ _. Keeps old new ⊎ IsBroken (IsTurn short) number was.state command old new)) (sym e) (inl k)
+  refused_broken (memory_ran_out w e k f) = subst (λ (x : Result (Unit {0}) Break). IfErr x (λ _. Keeps old new ⊎ IsBroken (IsTurn short) number was.state command old new)) (sym e) (inl k)
   refused_broken (line other r w e) = broken_by (IsTurn short) number was.state command is.state old new m n (refused_line number (why_edit why)) (its_turn other) r b e w
 
 -- a write failed where its fault rose
@@ -79,11 +79,11 @@ fault_by old new m n text (Ok u) b e w f = absurd (cc)
 fault_by old new m n text (Err x) b e w f = w.failed
 
 pub refused_fault : (Wants : Type 0) (text : List ℕ) (old new : Option (List ℕ)) (m n : ℕ) (b : Result (Unit {0}) Break) → IsAnswered Wants text old new m n b → b ≡ Err Unwritten → Rose m n
-refused_fault Wants text old new m n b (wanting w e k f) g = absurd (cc)
+refused_fault Wants text old new m n b (memory_ran_out w e k f) g = absurd (cc)
 refused_fault Wants text old new m n b (line other r w e) g = fault_by old new m n text r b e w g
 
 pub refused_later : (Wants : Type 0) (text : List ℕ) (old new : Option (List ℕ)) (m n : ℕ) (b : Result (Unit {0}) Break) → IsAnswered Wants text old new m n b → m ≤ n
-refused_later Wants text old new m n b (wanting w e k f) = omega (arith, f)
+refused_later Wants text old new m n b (memory_ran_out w e k f) = omega (arith, f)
 refused_later Wants text old new m n b (line other r w e) = w.later
 
 -- ---- one turn after another

@@ -65,7 +65,7 @@ pub record SoFar {S C : Type 0} (Turn : ℕ → S → C → S → List ℕ → T
 
 -- a refusal was told: memory ran out and nothing was written, or its line was written, or a prefix of that
 pub data IsAnswered (Wants : Type 0) (text : List ℕ) (old new : Option (List ℕ)) (before now : ℕ) (result : Result (Unit {0}) Break) : Type 0 where
-  wanting : Wants → result ≡ Err OutOfMemory → Keeps old new → before ≡ now → IsAnswered Wants text old new before now result
+  memory_ran_out : Wants → result ≡ Err OutOfMemory → Keeps old new → before ≡ now → IsAnswered Wants text old new before now result
   line : (Wants → ⊥) → (written : Result (Unit {0}) Failed) → Writes {T = Unit {0}} {E = Failed} old new before now text written
       → MatchResult written (λ u. result ≡ Ok u) (λ _. result ≡ Err Unwritten) → IsAnswered Wants text old new before now result
 

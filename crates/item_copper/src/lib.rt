@@ -4,12 +4,12 @@
 //! Shapes are in half nanometres; the distances that are kept are nanometres. No call takes memory.
 #![tactic(auto)]
 
-mod facing;
 mod layers;
+mod measured_pair;
 mod side;
 mod touch;
 
-pub use facing::{is_empty, sides_gap, sides_meet};
 pub use layers::share_layer;
+pub use measured_pair::{is_empty, sides_gap, sides_meet};
 pub use side::{ListedParts, SinglePart, SomeParts};
 pub use touch::{copper_meets, touches};

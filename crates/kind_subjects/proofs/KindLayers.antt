@@ -1,8 +1,8 @@
 -- A copper layer on which a kind is asked is one of the 32 that there can be.
 use Rattle.std.proofs.Common.{ℕ, ◌<◌, inl, inr}
 use Rattle.cond_lang.specs.declared.kind.Kind.{Kind}
-use Rattle.kind_subjects.specs.declared.subject.Faces.{Faces}
-use Rattle.kind_subjects.specs.declared.subject.Faces.TheVariants.{Coppers, HolesAndCopper, EdgesAndCopper, Areas}
+use Rattle.kind_subjects.specs.declared.subject.OperandKinds.{OperandKinds}
+use Rattle.kind_subjects.specs.declared.subject.OperandKinds.TheVariants.{Coppers, HolesAndCopper, EdgesAndCopper, Areas}
 use Rattle.kind_subjects.specs.declared.subject.Measure.{Measure}
 use Rattle.kind_subjects.specs.declared.subject.Measure.TheVariants.{Width}
 use Rattle.kind_subjects.specs.declared.subject.Subject.{Subject}
@@ -14,7 +14,7 @@ use Rattle.kind_subjects.specs.KindLayers.{IsFacedOn, IsMeasuredOn, IsSeenOn, Is
 pub layer_below : (kind : Kind) (n : ℕ) → IsLayerOf kind (Copper n) → n < 32
 layer_below kind n h = by (subject_of kind) h
   where
-    faced : (faces : Faces) → IsFacedOn faces (Copper n) → n < 32
+    faced : (operand_kinds : OperandKinds) → IsFacedOn operand_kinds (Copper n) → n < 32
     faced Coppers h = h
     faced HolesAndCopper h = h
     faced EdgesAndCopper (inl h) = h
@@ -27,7 +27,7 @@ layer_below kind n h = by (subject_of kind) h
     measured _ h = absurd h
 
     by : (subject : Subject) → IsSeenOn subject (Copper n) → n < 32
-    by (Sides faces) h = faced faces h
+    by (Sides operand_kinds) h = faced operand_kinds h
     by (Length measure) h = measured measure h
     by Whole (inl h) = h
     by Whole (inr h) = absurd h

@@ -15,8 +15,8 @@ use Rattle.board_items.specs.declared.item.Item.{Item}
 use Rattle.board_items.specs.CopperPairs.{SomeMeet, Keeps}
 use Rattle.cond_lang.specs.declared.kind.Kind.{Kind}
 use Rattle.cond_lang.specs.declared.kind.Kind.TheVariants.{Short, Clearance}
-use Rattle.kind_subjects.specs.declared.subject.Faces.{Faces}
-use Rattle.kind_subjects.specs.declared.subject.Faces.TheVariants.{Coppers, HolesAndCopper, Holes, EdgesAndCopper, Yards, Areas}
+use Rattle.kind_subjects.specs.declared.subject.OperandKinds.{OperandKinds}
+use Rattle.kind_subjects.specs.declared.subject.OperandKinds.TheVariants.{Coppers, HolesAndCopper, Holes, EdgesAndCopper, Yards, Areas}
 use Rattle.kind_subjects.specs.declared.subject.Subject.{Subject}
 use Rattle.kind_subjects.specs.declared.subject.Subject.TheVariants.{Sides, Length, Whole}
 use Rattle.kind_subjects.specs.declared.layer.RowLayer.{RowLayer}
@@ -24,46 +24,46 @@ use Rattle.kind_subjects.specs.declared.layer.RowLayer.TheVariants.{Copper, Fron
 use Rattle.kind_subjects.specs.Subjects.{subject_of}
 use Rattle.kind_subjects.specs.KindLayers.{IsFacedOn, IsSeenOn, IsLayerOf}
 use Rattle.kind_subjects.specs.TriedLayers.{IsTried}
-use Rattle.kind_subjects.specs.Facing.{Facing, faced, facings_in, facings, may_not_meet, MeetAt, KeepAt, TooNear}
+use Rattle.kind_subjects.specs.MeasuredPair.{MeasuredPair, faced, measured_pairs_in, measured_pairs, may_not_meet, MeetAt, KeepAt, TooNear}
 
 -- ---- layers
 
 -- something faces something only on the layers that the kind can have
-pub faces_on : (copper : LayerSet) (faces : Faces) (layer : RowLayer) (a b : Item) → IsTried copper layer → IsFacedOn faces layer ⊎ (faced faces layer a b ≡ [])
-faces_on copper Coppers (Copper n) a b is = inl is.below
-faces_on copper HolesAndCopper (Copper n) a b is = inl is.below
-faces_on copper EdgesAndCopper (Copper n) a b is = inl (inl is.below)
-faces_on copper EdgesAndCopper Nowhere a b is = inl (inr tt)
-faces_on copper Areas (Copper n) a b is = inl is.below
-faces_on copper Holes Nowhere a b is = inl tt
-faces_on copper Yards FrontYard a b is = inl tt
-faces_on copper Yards BackYard a b is = inl tt
-faces_on copper _ _ a b is = inr refl
+pub operand_kinds_on : (copper : LayerSet) (operand_kinds : OperandKinds) (layer : RowLayer) (a b : Item) → IsTried copper layer → IsFacedOn operand_kinds layer ⊎ (faced operand_kinds layer a b ≡ [])
+operand_kinds_on copper Coppers (Copper n) a b is = inl is.below
+operand_kinds_on copper HolesAndCopper (Copper n) a b is = inl is.below
+operand_kinds_on copper EdgesAndCopper (Copper n) a b is = inl (inl is.below)
+operand_kinds_on copper EdgesAndCopper Nowhere a b is = inl (inr tt)
+operand_kinds_on copper Areas (Copper n) a b is = inl is.below
+operand_kinds_on copper Holes Nowhere a b is = inl tt
+operand_kinds_on copper Yards FrontYard a b is = inl tt
+operand_kinds_on copper Yards BackYard a b is = inl tt
+operand_kinds_on copper _ _ a b is = inr refl
 
-sees_on : (copper : LayerSet) (kind : Kind) (layer : RowLayer) (a b : Item) → IsTried copper layer → IsLayerOf kind layer ⊎ (facings kind layer a b ≡ [])
-unfolding facings
+sees_on : (copper : LayerSet) (kind : Kind) (layer : RowLayer) (a b : Item) → IsTried copper layer → IsLayerOf kind layer ⊎ (measured_pairs kind layer a b ≡ [])
+unfolding measured_pairs
 sees_on copper kind layer a b is = by (subject_of kind)
   where
-    by : (subject : Subject) → IsSeenOn subject layer ⊎ (facings_in subject layer a b ≡ [])
-    by (Sides faces) = faces_on copper faces layer a b is
+    by : (subject : Subject) → IsSeenOn subject layer ⊎ (measured_pairs_in subject layer a b ≡ [])
+    by (Sides operand_kinds) = operand_kinds_on copper operand_kinds layer a b is
     by (Length measure) = inr refl
     by Whole = inr refl
 
-nothing_meets : (fs : List Facing) → fs ≡ [] → Any (λ (f : Facing). SomeMeet f.own f.others) fs → ⊥
-nothing_meets fs e m = none (subst (λ (l : List Facing). Any (λ (f : Facing). SomeMeet f.own f.others) l) e m)
+nothing_meets : (fs : List MeasuredPair) → fs ≡ [] → Any (λ (f : MeasuredPair). SomeMeet f.own f.others) fs → ⊥
+nothing_meets fs e m = none (subst (λ (l : List MeasuredPair). Any (λ (f : MeasuredPair). SomeMeet f.own f.others) l) e m)
   where
-    none : Any (λ (f : Facing). SomeMeet f.own f.others) [] → ⊥
+    none : Any (λ (f : MeasuredPair). SomeMeet f.own f.others) [] → ⊥
     none m = let h = m.2 in absurd (omega arith)
 
-all_keeps : (fs : List Facing) (v : ℤ) → fs ≡ [] → All (λ (f : Facing). Keeps f.own f.others v) fs
-all_keeps fs v e = subst (λ (l : List Facing). All (λ (f : Facing). Keeps f.own f.others v) l) (sym e) (λ k d h. absurd (omega arith))
+all_keeps : (fs : List MeasuredPair) (v : ℤ) → fs ≡ [] → All (λ (f : MeasuredPair). Keeps f.own f.others v) fs
+all_keeps fs v e = subst (λ (l : List MeasuredPair). All (λ (f : MeasuredPair). Keeps f.own f.others v) l) (sym e) (λ k d h. absurd (omega arith))
 
 pub meeting_layer : (copper : LayerSet) (kind : Kind) (layer : RowLayer) (a b : Item) → IsTried copper layer → MeetAt kind layer a b → IsLayerOf kind layer
 meeting_layer copper kind layer a b is m = by (sees_on copper kind layer a b is)
   where
-    by : IsLayerOf kind layer ⊎ (facings kind layer a b ≡ []) → IsLayerOf kind layer
+    by : IsLayerOf kind layer ⊎ (measured_pairs kind layer a b ≡ []) → IsLayerOf kind layer
     by (inl l) = l
-    by (inr e) = absurd (nothing_meets (facings kind layer a b) e m)
+    by (inr e) = absurd (nothing_meets (measured_pairs kind layer a b) e m)
 
 -- ---- what is too near
 
@@ -81,9 +81,9 @@ not_near kind layer a b v k m (inr n) = n k
 pub near_layer : (copper : LayerSet) (kind : Kind) (layer : RowLayer) (a b : Item) (v : ℤ) → IsTried copper layer → TooNear kind layer a b v → IsLayerOf kind layer
 near_layer copper kind layer a b v is n = by (sees_on copper kind layer a b is)
   where
-    by : IsLayerOf kind layer ⊎ (facings kind layer a b ≡ []) → IsLayerOf kind layer
+    by : IsLayerOf kind layer ⊎ (measured_pairs kind layer a b ≡ []) → IsLayerOf kind layer
     by (inl l) = l
-    by (inr e) = absurd (not_near kind layer a b v (all_keeps (facings kind layer a b) v e) (λ _ m. nothing_meets (facings kind layer a b) e m) n)
+    by (inr e) = absurd (not_near kind layer a b v (all_keeps (measured_pairs kind layer a b) v e) (λ _ m. nothing_meets (measured_pairs kind layer a b) e m) n)
 
 -- nothing has to be kept at 0
 kept_zero : (kind : Kind) (layer : RowLayer) (a b : Item) → KeepAt kind layer a b (pos 0)
@@ -149,11 +149,11 @@ parts_unmet xs ys v h (inr far) m =
 pub kept_unmet : (kind : Kind) (layer : RowLayer) (a b : Item) (v : ℤ) → pos 1 ≤ℤ v → KeepAt kind layer a b v → MeetAt kind layer a b → ⊥
 kept_unmet kind layer a b v h keep m =
     let f = m.1 in
-    parts_unmet f.own f.others v h (subst (λ (g : Facing). Keeps g.own g.others v) m.3 (keep m.0 f m.2)) m.4
+    parts_unmet f.own f.others v h (subst (λ (g : MeasuredPair). Keeps g.own g.others v) m.3 (keep m.0 f m.2)) m.4
 
 -- a short and a clearance look at the same parts
 pub short_as_clearance : (layer : RowLayer) (a b : Item) → MeetAt Short layer a b → MeetAt Clearance layer a b
-unfolding facings
+unfolding measured_pairs
 short_as_clearance layer a b m = m
 
 -- ---- a gap that was passed

@@ -33,7 +33,7 @@ measured_on copper Bore item layer is at = nowhere layer at
 measured_on copper Ring item layer is at = nowhere layer at
 
 measured_in : (copper : LayerSet) (subject : Subject) (item : Item) (layer : RowLayer) → IsTried copper layer → IsMeasuredIn subject item layer → IsSeenOn subject layer
-measured_in copper (Sides faces) item layer is at = absurd at
+measured_in copper (Sides operand_kinds) item layer is at = absurd at
 measured_in copper (Length measure) item layer is at = measured_on copper measure item layer is at
 measured_in copper Whole item layer is at = absurd at
 

@@ -20,17 +20,17 @@ use Rattle.board_items.specs.CopperPairs.{on_layer, SomeMeet, Keeps}
 use Rattle.cond_lang.specs.declared.kind.Kind.{Kind}
 use Rattle.rule_pick.specs.FactsOf.{SomeOn}
 use Rattle.item_copper.proofs.Meeting.{any_here, any_later, any_none, any_cases}
-use Rattle.kind_subjects.specs.declared.subject.Faces.{Faces}
-use Rattle.kind_subjects.specs.declared.subject.Faces.TheVariants.{Coppers, HolesAndCopper, EdgesAndCopper}
+use Rattle.kind_subjects.specs.declared.subject.OperandKinds.{OperandKinds}
+use Rattle.kind_subjects.specs.declared.subject.OperandKinds.TheVariants.{Coppers, HolesAndCopper, EdgesAndCopper}
 use Rattle.kind_subjects.specs.declared.subject.Subject.{Subject}
 use Rattle.kind_subjects.specs.declared.layer.RowLayer.{RowLayer}
 use Rattle.kind_subjects.specs.declared.layer.RowLayer.TheVariants.{Copper, Nowhere}
 use Rattle.kind_subjects.specs.Subjects.{subject_of}
 use Rattle.kind_subjects.specs.KindLayers.{IsFacedOn}
 use Rattle.kind_subjects.specs.TriedLayers.{rank, IsTried}
-use Rattle.kind_subjects.specs.Facing.{Facing, facing, faced, facings_in, facings, copper_on, hole_on, lines_of, MeetAt, TooNear}
-use Rattle.kind_subjects.specs.MeasuredPairs.{IsUnfaced, AreFacedWithin, FaceWithin}
-use Rattle.kind_subjects.proofs.NearLayers.{faces_on, not_near}
+use Rattle.kind_subjects.specs.MeasuredPair.{MeasuredPair, measured_pair, faced, measured_pairs_in, measured_pairs, copper_on, hole_on, lines_of, MeetAt, TooNear}
+use Rattle.kind_subjects.specs.PairSides.{IsUnfaced, AreFacedWithin, FaceWithin}
+use Rattle.kind_subjects.proofs.NearLayers.{operand_kinds_on, not_near}
 
 pub unlike : (b : Bool) → b ≡ false → b ≡ true → ⊥
 unlike b e f = cc
@@ -47,10 +47,10 @@ none_or_some test (x ∷ xs) = by (test x) refl (none_or_some test xs)
     by false e (inr a) = inr (any_later (λ x. IsTrue (test x)) x xs a)
 
 -- only layers of the set have parts of both
-pub shared_in : (set : LayerSet) (layer : ℕ) (xs ys : List Part) → (SomeOn layer xs → SomeOn layer ys → IsTrue (has_layer set layer)) → IsUnfaced (facing (on_layer layer xs) (on_layer layer ys)) ⊎ IsTrue (has_layer set layer)
+pub shared_in : (set : LayerSet) (layer : ℕ) (xs ys : List Part) → (SomeOn layer xs → SomeOn layer ys → IsTrue (has_layer set layer)) → IsUnfaced (measured_pair (on_layer layer xs) (on_layer layer ys)) ⊎ IsTrue (has_layer set layer)
 shared_in set layer xs ys both = by (none_or_some (λ part. has_layer part.layers layer) xs) (none_or_some (λ part. has_layer part.layers layer) ys)
   where
-    by : (on_layer layer xs ≡ []) ⊎ SomeOn layer xs → (on_layer layer ys ≡ []) ⊎ SomeOn layer ys → IsUnfaced (facing (on_layer layer xs) (on_layer layer ys)) ⊎ IsTrue (has_layer set layer)
+    by : (on_layer layer xs ≡ []) ⊎ SomeOn layer xs → (on_layer layer ys ≡ []) ⊎ SomeOn layer ys → IsUnfaced (measured_pair (on_layer layer xs) (on_layer layer ys)) ⊎ IsTrue (has_layer set layer)
     by (inl e) other = inl (inl e)
     by (inr s) (inl e) = inl (inr e)
     by (inr s) (inr t) = inr (both s t)
@@ -93,11 +93,11 @@ all_parts layer parts i layers l (inr s) = absurd (any_none (λ p. IsTrue (has_l
 
 -- ---- facings
 
-unmet : (f : Facing) → IsUnfaced f → SomeMeet f.own f.others → ⊥
+unmet : (f : MeasuredPair) → IsUnfaced f → SomeMeet f.own f.others → ⊥
 unmet f (inl e) m = any_none (λ (part : Part). Any (λ (other : Part). Meet part.shape other.shape) f.others) (subst (λ (ps : List Part). Any (λ (part : Part). Any (λ (other : Part). Meet part.shape other.shape) f.others) ps) e m.some)
 unmet f (inr e) m = let some = m.some in any_none (λ (other : Part). Meet some.1.shape other.shape) (subst (λ (ps : List Part). Any (λ (other : Part). Meet some.1.shape other.shape) ps) e some.4)
 
-kept : (f : Facing) (v : ℤ) → IsUnfaced f → Keeps f.own f.others v
+kept : (f : MeasuredPair) (v : ℤ) → IsUnfaced f → Keeps f.own f.others v
 kept f v (inl e) =
     let Far : Part → Type 0 = λ part. All (λ (other : Part). Apart part.shape other.shape (pos 2 *ℤ v)) f.others in inr (record { each = subst (λ (ps : List Part). All Far ps) (sym e) (All-nil Far) })
 kept f v (inr e) = inr (record { each = each })
@@ -106,51 +106,51 @@ kept f v (inr e) = inr (record { each = each })
     each k d lt =
         let Far : Part → Type 0 = λ other. Apart (get_or f.own k d).shape other.shape (pos 2 *ℤ v) in subst (λ (ps : List Part). All Far ps) (sym e) (All-nil Far)
 
-none_meet : (fs : List Facing) → All IsUnfaced fs → Any (λ (f : Facing). SomeMeet f.own f.others) fs → ⊥
-none_meet [] u m = any_none (λ (f : Facing). SomeMeet f.own f.others) m
-none_meet (f ∷ fs) u m = by (none_meet fs (All-tail IsUnfaced f fs u)) (any_cases (λ (f : Facing). SomeMeet f.own f.others) f fs m)
+none_meet : (fs : List MeasuredPair) → All IsUnfaced fs → Any (λ (f : MeasuredPair). SomeMeet f.own f.others) fs → ⊥
+none_meet [] u m = any_none (λ (f : MeasuredPair). SomeMeet f.own f.others) m
+none_meet (f ∷ fs) u m = by (none_meet fs (All-tail IsUnfaced f fs u)) (any_cases (λ (f : MeasuredPair). SomeMeet f.own f.others) f fs m)
   where
-    by : (Any (λ (f : Facing). SomeMeet f.own f.others) fs → ⊥) → SomeMeet f.own f.others ⊎ Any (λ (f : Facing). SomeMeet f.own f.others) fs → ⊥
+    by : (Any (λ (f : MeasuredPair). SomeMeet f.own f.others) fs → ⊥) → SomeMeet f.own f.others ⊎ Any (λ (f : MeasuredPair). SomeMeet f.own f.others) fs → ⊥
     by later (inl here) = unmet f (All-head IsUnfaced f fs u) here
     by later (inr more) = later more
 
-all_keep : (fs : List Facing) (v : ℤ) → All IsUnfaced fs → All (λ (f : Facing). Keeps f.own f.others v) fs
-all_keep [] v u = All-nil (λ (f : Facing). Keeps f.own f.others v)
-all_keep (f ∷ fs) v u = All-cons (λ (f : Facing). Keeps f.own f.others v) f fs (kept f v (All-head IsUnfaced f fs u)) (all_keep fs v (All-tail IsUnfaced f fs u))
+all_keep : (fs : List MeasuredPair) (v : ℤ) → All IsUnfaced fs → All (λ (f : MeasuredPair). Keeps f.own f.others v) fs
+all_keep [] v u = All-nil (λ (f : MeasuredPair). Keeps f.own f.others v)
+all_keep (f ∷ fs) v u = All-cons (λ (f : MeasuredPair). Keeps f.own f.others v) f fs (kept f v (All-head IsUnfaced f fs u)) (all_keep fs v (All-tail IsUnfaced f fs u))
 
 -- what faces nothing does not meet, and is not too near
 pub meet_within : (kind : Kind) (a b : Item) (from to : ℕ) (layer : RowLayer) → FaceWithin kind a b from to layer → MeetAt kind layer a b → (from ≤ rank layer) × (rank layer < to)
-meet_within kind a b from to layer (inl far) m = absurd (none_meet (facings kind layer a b) far m)
+meet_within kind a b from to layer (inl far) m = absurd (none_meet (measured_pairs kind layer a b) far m)
 meet_within kind a b from to layer (inr w) m = w
 
 pub near_within : (kind : Kind) (a b : Item) (v : ℤ) (from to : ℕ) (layer : RowLayer) → FaceWithin kind a b from to layer → TooNear kind layer a b v → (from ≤ rank layer) × (rank layer < to)
-near_within kind a b v from to layer (inl far) n = absurd (not_near kind layer a b v (all_keep (facings kind layer a b) v far) (λ e m. none_meet (facings kind layer a b) far m) n)
+near_within kind a b v from to layer (inl far) n = absurd (not_near kind layer a b v (all_keep (measured_pairs kind layer a b) v far) (λ e m. none_meet (measured_pairs kind layer a b) far m) n)
 near_within kind a b v from to layer (inr w) n = w
 
 -- ---- kinds
 
 abbrev CopperIn : LayerSet → Item → Item → Type 0
-CopperIn set a b = (layer : ℕ) → IsUnfaced (facing (copper_on layer a) (copper_on layer b)) ⊎ IsTrue (has_layer set layer)
+CopperIn set a b = (layer : ℕ) → IsUnfaced (measured_pair (copper_on layer a) (copper_on layer b)) ⊎ IsTrue (has_layer set layer)
 
 abbrev HoleIn : LayerSet → Item → Item → Type 0
-HoleIn set a b = (layer : ℕ) → IsUnfaced (facing (hole_on layer a) (copper_on layer b)) ⊎ IsTrue (has_layer set layer)
+HoleIn set a b = (layer : ℕ) → IsUnfaced (measured_pair (hole_on layer a) (copper_on layer b)) ⊎ IsTrue (has_layer set layer)
 
 -- the layers of the set have places from the one to before the other
 abbrev PlacesFrom : LayerSet → ℕ → ℕ → Type 0
 PlacesFrom set from to = (layer : ℕ) → IsTrue (has_layer set layer) → (from ≤ layer) × (layer < to)
 
-one : (f : Facing) → IsUnfaced f → All IsUnfaced (f ∷ [])
+one : (f : MeasuredPair) → IsUnfaced f → All IsUnfaced (f ∷ [])
 one f u = All-cons IsUnfaced f [] u (All-nil IsUnfaced)
 
-two : (f g : Facing) → IsUnfaced f → IsUnfaced g → All IsUnfaced (f ∷ g ∷ [])
+two : (f g : MeasuredPair) → IsUnfaced f → IsUnfaced g → All IsUnfaced (f ∷ g ∷ [])
 two f g u v = All-cons IsUnfaced f (g ∷ []) u (one g v)
 
 module _ (set : LayerSet) (a b : Item) (from to : ℕ) (places : PlacesFrom set from to) where
-  one_within : (f : Facing) (layer : ℕ) → IsUnfaced f ⊎ IsTrue (has_layer set layer) → All IsUnfaced (f ∷ []) ⊎ ((from ≤ layer) × (layer < to))
+  one_within : (f : MeasuredPair) (layer : ℕ) → IsUnfaced f ⊎ IsTrue (has_layer set layer) → All IsUnfaced (f ∷ []) ⊎ ((from ≤ layer) × (layer < to))
   one_within f layer (inl u) = inl (one f u)
   one_within f layer (inr h) = inr (places layer h)
 
-  two_within : (f g : Facing) (layer : ℕ) → IsUnfaced f ⊎ IsTrue (has_layer set layer) → IsUnfaced g ⊎ IsTrue (has_layer set layer) → All IsUnfaced (f ∷ g ∷ []) ⊎ ((from ≤ layer) × (layer < to))
+  two_within : (f g : MeasuredPair) (layer : ℕ) → IsUnfaced f ⊎ IsTrue (has_layer set layer) → IsUnfaced g ⊎ IsTrue (has_layer set layer) → All IsUnfaced (f ∷ g ∷ []) ⊎ ((from ≤ layer) × (layer < to))
   two_within f g layer (inl u) (inl v) = inl (two f g u v)
   two_within f g layer (inr h) w = inr (places layer h)
   two_within f g layer u (inr h) = inr (places layer h)
@@ -169,18 +169,18 @@ edge_within a b from to e f Nowhere = inl (two _ _ (inl e) (inl f))
 edge_within a b from to e f _ = inl (All-nil IsUnfaced)
 
 -- parts that face each other have their places
-pub faces_within : (faces : Faces) (a b : Item) (from to : ℕ) → ((layer : RowLayer) → IsFacedOn faces layer → (from ≤ rank layer) × (rank layer < to)) → (copper : LayerSet) (layer : RowLayer) → IsTried copper layer
-    → AreFacedWithin (faced faces layer a b) from to layer
-faces_within faces a b from to places copper layer is = by (faces_on copper faces layer a b is)
+pub operand_kinds_within : (operand_kinds : OperandKinds) (a b : Item) (from to : ℕ) → ((layer : RowLayer) → IsFacedOn operand_kinds layer → (from ≤ rank layer) × (rank layer < to)) → (copper : LayerSet) (layer : RowLayer) → IsTried copper layer
+    → AreFacedWithin (faced operand_kinds layer a b) from to layer
+operand_kinds_within operand_kinds a b from to places copper layer is = by (operand_kinds_on copper operand_kinds layer a b is)
   where
-    by : IsFacedOn faces layer ⊎ (faced faces layer a b ≡ []) → AreFacedWithin (faced faces layer a b) from to layer
+    by : IsFacedOn operand_kinds layer ⊎ (faced operand_kinds layer a b ≡ []) → AreFacedWithin (faced operand_kinds layer a b) from to layer
     by (inl l) = inr (places layer l)
-    by (inr e) = inl (subst (λ (fs : List Facing). All IsUnfaced fs) (sym e) (All-nil IsUnfaced))
+    by (inr e) = inl (subst (λ (fs : List MeasuredPair). All IsUnfaced fs) (sym e) (All-nil IsUnfaced))
 
 -- what a kind faces
-pub kind_within : (kind : Kind) (subject : Subject) (a b : Item) (from to : ℕ) (layer : RowLayer) → subject_of kind ≡ subject → AreFacedWithin (facings_in subject layer a b) from to layer → FaceWithin kind a b from to layer
-unfolding facings
-kind_within kind subject a b from to layer e h = subst (λ (s : Subject). AreFacedWithin (facings_in s layer a b) from to layer) (sym e) h
+pub kind_within : (kind : Kind) (subject : Subject) (a b : Item) (from to : ℕ) (layer : RowLayer) → subject_of kind ≡ subject → AreFacedWithin (measured_pairs_in subject layer a b) from to layer → FaceWithin kind a b from to layer
+unfolding measured_pairs
+kind_within kind subject a b from to layer e h = subst (λ (s : Subject). AreFacedWithin (measured_pairs_in s layer a b) from to layer) (sym e) h
 
 -- ---- sets of layers
 

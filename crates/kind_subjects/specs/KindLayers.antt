@@ -1,8 +1,8 @@
 -- On which layers a kind is asked.
 use Rattle.std.specs.Prelude.{◌⊎◌, ◌<◌}
 use Rattle.cond_lang.specs.declared.kind.Kind.{Kind}
-use Rattle.kind_subjects.specs.declared.subject.Faces.{Faces}
-use Rattle.kind_subjects.specs.declared.subject.Faces.TheVariants.{Coppers, HolesAndCopper, Holes, EdgesAndCopper, Yards, Areas}
+use Rattle.kind_subjects.specs.declared.subject.OperandKinds.{OperandKinds}
+use Rattle.kind_subjects.specs.declared.subject.OperandKinds.TheVariants.{Coppers, HolesAndCopper, Holes, EdgesAndCopper, Yards, Areas}
 use Rattle.kind_subjects.specs.declared.subject.Measure.{Measure}
 use Rattle.kind_subjects.specs.declared.subject.Measure.TheVariants.{Width, Diameter, Bore, Ring}
 use Rattle.kind_subjects.specs.declared.subject.Subject.{Subject}
@@ -27,7 +27,7 @@ IsYard _ = ⊥
 
 -- on which layers parts face each other: courtyards on their own, holes on none, the others on copper layers, and edges also face what
 -- has no copper
-abbrev pub IsFacedOn : Faces → RowLayer → Type 0
+abbrev pub IsFacedOn : OperandKinds → RowLayer → Type 0
 IsFacedOn Coppers layer = IsCopper layer
 IsFacedOn HolesAndCopper layer = IsCopper layer
 IsFacedOn Holes layer = IsNowhere layer
@@ -44,7 +44,7 @@ IsMeasuredOn Ring layer = IsNowhere layer
 
 -- a single item is asked on copper layers, and without copper on none
 abbrev pub IsSeenOn : Subject → RowLayer → Type 0
-IsSeenOn (Sides faces) layer = IsFacedOn faces layer
+IsSeenOn (Sides operand_kinds) layer = IsFacedOn operand_kinds layer
 IsSeenOn (Length measure) layer = IsMeasuredOn measure layer
 IsSeenOn Whole layer = IsCopper layer ⊎ IsNowhere layer
 

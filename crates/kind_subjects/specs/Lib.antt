@@ -2,7 +2,7 @@ pub mod Subjects
 pub mod TriedLayers
 pub mod KindLayers
 pub mod Compared
-pub mod Facing
-pub mod MeasuredPairs
+pub mod MeasuredPair
+pub mod PairSides
 pub mod SingleLayers
 pub mod LimitedLengths

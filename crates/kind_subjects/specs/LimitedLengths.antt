@@ -40,7 +40,7 @@ length_by Bore item = option_map (λ hole. hole.least) item.hole
 length_by Ring item = ring_of item.what item.hole
 
 abbrev pub length_in : Subject → Item → Option ℤ
-length_in (Sides faces) item = None
+length_in (Sides operand_kinds) item = None
 length_in (Length measure) item = length_by measure item
 length_in Whole item = None
 
@@ -55,7 +55,7 @@ times_by Bore = pos 1
 times_by Ring = pos 2
 
 abbrev pub times_in : Subject → ℤ
-times_in (Sides faces) = pos 1
+times_in (Sides operand_kinds) = pos 1
 times_in (Length measure) = times_by measure
 times_in Whole = pos 1
 

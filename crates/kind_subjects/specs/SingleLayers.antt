@@ -40,7 +40,7 @@ IsMeasuredBy Bore item layer = layer ≡ Nowhere
 IsMeasuredBy Ring item layer = layer ≡ Nowhere
 
 abbrev pub IsMeasuredIn : Subject → Item → RowLayer → Type 0
-IsMeasuredIn (Sides faces) item layer = ⊥
+IsMeasuredIn (Sides operand_kinds) item layer = ⊥
 IsMeasuredIn (Length measure) item layer = IsMeasuredBy measure item layer
 IsMeasuredIn Whole item layer = ⊥
 

@@ -6,27 +6,27 @@
 #![tactic(auto)]
 
 mod compared;
-mod faces;
 mod layer;
 mod lengths;
 mod measure;
 mod meeting;
 mod near;
+mod operand_kinds;
 mod places;
 mod single_layers;
 mod subject;
 
 pub use compared::{is_compared, share_net};
-pub use faces::places_between;
 pub use layer::RowLayer;
 pub use lengths::{counted, length_of, length_once};
-pub use measure::{Faced, Facings, facings_at, may_face};
+pub use measure::{Faced, MeasuredPairs, may_face, measured_pairs_at};
 pub use meeting::first_meeting;
 pub use near::{are_kept, gap_if_near, may_not_meet};
+pub use operand_kinds::places_between;
 pub use places::{Places, places_of_items, tried_at};
 use plain_types::crosses_threads;
 pub use single_layers::{is_asked_at, is_measured_at, places_measured};
-pub use subject::{Faces, Measure, Subject};
+pub use subject::{Measure, OperandKinds, Subject};
 
 fn layers_cross() {
     crosses_threads::<RowLayer>();

@@ -8,11 +8,11 @@ ghost use Rattle.board_items.specs.ItemParts.{hole_parts};
 ghost use Rattle.rule_pick.specs.FactsOf.{parts_asked};
 ghost use Rattle.item_copper.specs.MeasuredSides.{parts_at};
 ghost use Rattle.kind_subjects.specs.declared.layer.RowLayer.TheVariants.{Copper, FrontYard, BackYard, Nowhere};
-ghost use Rattle.kind_subjects.specs.Facing.{copper_on, hole_on, hole_alone, lines_of, front_of, back_of, area_on, yard_on, placed_on, both_ways, copper_facing, holes_facing, faced, facings, MeetAt, KeepAt};
-ghost use Rattle.kind_subjects.specs.MeasuredPairs.{IsInStack, facings_of, SomeFacingMeets, AllFacingsKeep};
+ghost use Rattle.kind_subjects.specs.MeasuredPair.{copper_on, hole_on, hole_alone, lines_of, front_of, back_of, area_on, yard_on, placed_on, both_ways, copper_pairs, hole_pairs, faced, measured_pairs, MeetAt, KeepAt};
+ghost use Rattle.kind_subjects.specs.PairSides.{IsInStack, measured_pairs_of, SomeMeasuredPairMeets, AllMeasuredPairsKeep};
 
 use crate::layer::RowLayer;
-use crate::subject::{Faces, Subject, subject_of};
+use crate::subject::{OperandKinds, Subject, subject_of};
 use board_items::{Hole, Item, Nm, Part, Parts, What};
 use cond_lang::Kind;
 use item_copper::{ListedParts, SinglePart, SomeParts, is_empty, sides_gap, sides_meet};
@@ -26,7 +26,7 @@ pub struct Faced<'a> {
 
 /// All that faces each other.
 #[derive(Clone, Copy)]
-pub enum Facings<'a> {
+pub enum MeasuredPairs<'a> {
     Nothing,
     OneWay(Faced<'a>),
     BothWays(Faced<'a>, Faced<'a>),
@@ -186,20 +186,20 @@ fn placed_on(item: &Item, layer: u32) -> SomeParts<'_>
 // ---- what faces what
 
 /// The copper of both on the layer.
-fn copper_facing<'a>(a: &'a Item, b: &'a Item, layer: u32) -> Facings<'a>
+fn copper_pairs<'a>(a: &'a Item, b: &'a Item, layer: u32) -> MeasuredPairs<'a>
     requires { layer < 32 }
-    ensures { facings_of result ≡ copper_facing layer a.now b.now }
+    ensures { measured_pairs_of result ≡ copper_pairs layer a.now b.now }
 {
-    Facings::OneWay(Faced {
+    MeasuredPairs::OneWay(Faced {
         own: copper_on(a, layer),
         others: copper_on(b, layer),
     })
 }
 
 /// The hole of each and the copper of the other.
-fn holes_facing<'a>(a: &'a Item, b: &'a Item, layer: u32) -> Facings<'a>
+fn hole_pairs<'a>(a: &'a Item, b: &'a Item, layer: u32) -> MeasuredPairs<'a>
     requires { layer < 32 }
-    ensures { facings_of result ≡ holes_facing layer a.now b.now }
+    ensures { measured_pairs_of result ≡ hole_pairs layer a.now b.now }
 {
     let there = Faced {
         own: hole_on(a, layer),
@@ -209,13 +209,13 @@ fn holes_facing<'a>(a: &'a Item, b: &'a Item, layer: u32) -> Facings<'a>
         own: hole_on(b, layer),
         others: copper_on(a, layer),
     };
-    Facings::BothWays(there, back)
+    MeasuredPairs::BothWays(there, back)
 }
 
 /// The lines of an edge and copper on the layer.
-fn edges_facing<'a>(a: &'a Item, b: &'a Item, layer: u32) -> Facings<'a>
+fn edge_pairs<'a>(a: &'a Item, b: &'a Item, layer: u32) -> MeasuredPairs<'a>
     requires { layer < 32 }
-    ensures { facings_of result
+    ensures { measured_pairs_of result
         ≡ both_ways (lines_of a.now.what) (copper_on layer b.now) (lines_of b.now.what)
         (copper_on layer a.now) }
 {
@@ -227,12 +227,12 @@ fn edges_facing<'a>(a: &'a Item, b: &'a Item, layer: u32) -> Facings<'a>
         own: lines_of(&b.what),
         others: copper_on(a, layer),
     };
-    Facings::BothWays(there, back)
+    MeasuredPairs::BothWays(there, back)
 }
 
 /// The lines of an edge and the hole of an item without copper.
-fn edges_facing_holes<'a>(a: &'a Item, b: &'a Item) -> Facings<'a>
-    ensures { facings_of result
+fn edge_hole_pairs<'a>(a: &'a Item, b: &'a Item) -> MeasuredPairs<'a>
+    ensures { measured_pairs_of result
         ≡ both_ways (lines_of a.now.what) (hole_alone b.now) (lines_of b.now.what)
         (hole_alone a.now) }
 {
@@ -244,13 +244,13 @@ fn edges_facing_holes<'a>(a: &'a Item, b: &'a Item) -> Facings<'a>
         own: lines_of(&b.what),
         others: hole_alone(a),
     };
-    Facings::BothWays(there, back)
+    MeasuredPairs::BothWays(there, back)
 }
 
 /// A rule area and where the other is on the layer.
-fn areas_facing<'a>(a: &'a Item, b: &'a Item, layer: u32) -> Facings<'a>
+fn area_pairs<'a>(a: &'a Item, b: &'a Item, layer: u32) -> MeasuredPairs<'a>
     requires { layer < 32 }
-    ensures { facings_of result
+    ensures { measured_pairs_of result
         ≡ both_ways (area_on layer a.now.what) (placed_on layer b.now b.now.what)
         (area_on layer b.now.what) (placed_on layer a.now a.now.what) }
 {
@@ -262,96 +262,114 @@ fn areas_facing<'a>(a: &'a Item, b: &'a Item, layer: u32) -> Facings<'a>
         own: area_on(&b.what, layer),
         others: placed_on(a, layer),
     };
-    Facings::BothWays(there, back)
+    MeasuredPairs::BothWays(there, back)
 }
 
 /// What faces each other on a copper layer.
 #[inline(always)]
-fn faced_on<'a>(faces: Faces, layer: u32, a: &'a Item, b: &'a Item) -> Facings<'a>
+fn faced_on<'a>(
+    operand_kinds: OperandKinds,
+    layer: u32,
+    a: &'a Item,
+    b: &'a Item,
+) -> MeasuredPairs<'a>
     requires { layer < 32 }
-    ensures { facings_of result ≡ faced faces (Copper layer) a.now b.now }
+    ensures { measured_pairs_of result ≡ faced operand_kinds (Copper layer) a.now b.now }
 {
-    match faces {
-        Faces::Coppers => copper_facing(a, b, layer),
-        Faces::HolesAndCopper => holes_facing(a, b, layer),
-        Faces::EdgesAndCopper => edges_facing(a, b, layer),
-        Faces::Areas => areas_facing(a, b, layer),
-        Faces::Holes | Faces::Yards => Facings::Nothing,
+    match operand_kinds {
+        OperandKinds::Coppers => copper_pairs(a, b, layer),
+        OperandKinds::HolesAndCopper => hole_pairs(a, b, layer),
+        OperandKinds::EdgesAndCopper => edge_pairs(a, b, layer),
+        OperandKinds::Areas => area_pairs(a, b, layer),
+        OperandKinds::Holes | OperandKinds::Yards => MeasuredPairs::Nothing,
     }
 }
 
 /// What faces each other on no layer.
-fn faced_nowhere<'a>(faces: Faces, a: &'a Item, b: &'a Item) -> Facings<'a>
-    ensures { facings_of result ≡ faced faces Nowhere a.now b.now }
+fn faced_nowhere<'a>(operand_kinds: OperandKinds, a: &'a Item, b: &'a Item) -> MeasuredPairs<'a>
+    ensures { measured_pairs_of result ≡ faced operand_kinds Nowhere a.now b.now }
 {
-    match faces {
-        Faces::Holes => Facings::OneWay(Faced {
+    match operand_kinds {
+        OperandKinds::Holes => MeasuredPairs::OneWay(Faced {
             own: whole_hole(&a.hole),
             others: whole_hole(&b.hole),
         }),
-        Faces::EdgesAndCopper => edges_facing_holes(a, b),
-        Faces::Coppers | Faces::HolesAndCopper | Faces::Yards | Faces::Areas => Facings::Nothing,
+        OperandKinds::EdgesAndCopper => edge_hole_pairs(a, b),
+        OperandKinds::Coppers
+        | OperandKinds::HolesAndCopper
+        | OperandKinds::Yards
+        | OperandKinds::Areas => MeasuredPairs::Nothing,
     }
 }
 
 /// What faces each other in the courtyards of the front.
-fn faced_in_front<'a>(faces: Faces, a: &'a Item, b: &'a Item) -> Facings<'a>
-    ensures { facings_of result ≡ faced faces FrontYard a.now b.now }
+fn faced_in_front<'a>(operand_kinds: OperandKinds, a: &'a Item, b: &'a Item) -> MeasuredPairs<'a>
+    ensures { measured_pairs_of result ≡ faced operand_kinds FrontYard a.now b.now }
 {
-    match faces {
-        Faces::Yards => Facings::OneWay(Faced {
+    match operand_kinds {
+        OperandKinds::Yards => MeasuredPairs::OneWay(Faced {
             own: front_of(&a.what),
             others: front_of(&b.what),
         }),
-        Faces::Coppers
-        | Faces::HolesAndCopper
-        | Faces::Holes
-        | Faces::EdgesAndCopper
-        | Faces::Areas => Facings::Nothing,
+        OperandKinds::Coppers
+        | OperandKinds::HolesAndCopper
+        | OperandKinds::Holes
+        | OperandKinds::EdgesAndCopper
+        | OperandKinds::Areas => MeasuredPairs::Nothing,
     }
 }
 
 /// What faces each other in the courtyards of the back.
-fn faced_in_back<'a>(faces: Faces, a: &'a Item, b: &'a Item) -> Facings<'a>
-    ensures { facings_of result ≡ faced faces BackYard a.now b.now }
+fn faced_in_back<'a>(operand_kinds: OperandKinds, a: &'a Item, b: &'a Item) -> MeasuredPairs<'a>
+    ensures { measured_pairs_of result ≡ faced operand_kinds BackYard a.now b.now }
 {
-    match faces {
-        Faces::Yards => Facings::OneWay(Faced {
+    match operand_kinds {
+        OperandKinds::Yards => MeasuredPairs::OneWay(Faced {
             own: back_of(&a.what),
             others: back_of(&b.what),
         }),
-        Faces::Coppers
-        | Faces::HolesAndCopper
-        | Faces::Holes
-        | Faces::EdgesAndCopper
-        | Faces::Areas => Facings::Nothing,
+        OperandKinds::Coppers
+        | OperandKinds::HolesAndCopper
+        | OperandKinds::Holes
+        | OperandKinds::EdgesAndCopper
+        | OperandKinds::Areas => MeasuredPairs::Nothing,
     }
 }
 
 /// Which of these parts face each other on the layer.
 #[inline(always)]
-fn faced_at<'a>(faces: Faces, layer: RowLayer, a: &'a Item, b: &'a Item) -> Facings<'a>
+fn faced_at<'a>(
+    operand_kinds: OperandKinds,
+    layer: RowLayer,
+    a: &'a Item,
+    b: &'a Item,
+) -> MeasuredPairs<'a>
     requires { IsInStack layer }
-    ensures { facings_of result ≡ faced faces layer a.now b.now }
+    ensures { measured_pairs_of result ≡ faced operand_kinds layer a.now b.now }
 {
     match layer {
-        RowLayer::Copper(layer) => faced_on(faces, layer, a, b),
-        RowLayer::FrontYard => faced_in_front(faces, a, b),
-        RowLayer::BackYard => faced_in_back(faces, a, b),
-        RowLayer::Nowhere => faced_nowhere(faces, a, b),
+        RowLayer::Copper(layer) => faced_on(operand_kinds, layer, a, b),
+        RowLayer::FrontYard => faced_in_front(operand_kinds, a, b),
+        RowLayer::BackYard => faced_in_back(operand_kinds, a, b),
+        RowLayer::Nowhere => faced_nowhere(operand_kinds, a, b),
     }
 }
 
 /// All that faces each other for the kind on the layer.
 #[inline(always)]
-#[tactic(auto, unfolding(crate::specs::Facing::facings))]
-pub fn facings_at<'a>(kind: Kind, layer: RowLayer, a: &'a Item, b: &'a Item) -> Facings<'a>
+#[tactic(auto, unfolding(crate::specs::MeasuredPair::measured_pairs))]
+pub fn measured_pairs_at<'a>(
+    kind: Kind,
+    layer: RowLayer,
+    a: &'a Item,
+    b: &'a Item,
+) -> MeasuredPairs<'a>
     requires { IsInStack layer }
-    ensures { facings_of result ≡ facings kind layer a.now b.now }
+    ensures { measured_pairs_of result ≡ measured_pairs kind layer a.now b.now }
 {
     match subject_of(kind) {
-        Subject::Sides(faces) => faced_at(faces, layer, a, b),
-        Subject::Length(_) | Subject::Whole => Facings::Nothing,
+        Subject::Sides(operand_kinds) => faced_at(operand_kinds, layer, a, b),
+        Subject::Length(_) | Subject::Whole => MeasuredPairs::Nothing,
     }
 }
 
@@ -367,39 +385,41 @@ fn is_faced(faced: &Faced<'_>) -> bool
 
 /// Whether anything faces anything. Shapes are not looked at.
 #[inline(always)]
-fn may_meet(facings: &Facings<'_>) -> bool
-    ensures meet { result ≡ false → ¬ (SomeFacingMeets (facings_of facings.now)) }
-    ensures keep { result ≡ false → (v : ℤ) → AllFacingsKeep (facings_of facings.now) v }
+fn may_meet(measured_pairs: &MeasuredPairs<'_>) -> bool
+    ensures meet { result ≡ false → ¬
+        (SomeMeasuredPairMeets (measured_pairs_of measured_pairs.now)) }
+    ensures keep { result ≡ false → (v : ℤ) → AllMeasuredPairsKeep
+        (measured_pairs_of measured_pairs.now) v }
 {
-    match facings {
-        Facings::Nothing => false,
-        Facings::OneWay(one) => is_faced(one),
-        Facings::BothWays(there, back) => is_faced(there) || is_faced(back),
+    match measured_pairs {
+        MeasuredPairs::Nothing => false,
+        MeasuredPairs::OneWay(one) => is_faced(one),
+        MeasuredPairs::BothWays(there, back) => is_faced(there) || is_faced(back),
     }
 }
 
 /// Whether some of what faces each other meets.
-fn do_meet(facings: &Facings<'_>) -> bool
-    ensures { IsTrue result ↔ SomeFacingMeets (facings_of facings.now) }
+fn do_meet(measured_pairs: &MeasuredPairs<'_>) -> bool
+    ensures { IsTrue result ↔ SomeMeasuredPairMeets (measured_pairs_of measured_pairs.now) }
 {
-    match facings {
-        Facings::Nothing => false,
-        Facings::OneWay(one) => sides_meet(&one.own, &one.others),
-        Facings::BothWays(there, back) => {
+    match measured_pairs {
+        MeasuredPairs::Nothing => false,
+        MeasuredPairs::OneWay(one) => sides_meet(&one.own, &one.others),
+        MeasuredPairs::BothWays(there, back) => {
             sides_meet(&there.own, &there.others) || sides_meet(&back.own, &back.others)
         }
     }
 }
 
 /// The gap of all that faces each other.
-fn gap_of(facings: &Facings<'_>, most: Nm) -> Nm
+fn gap_of(measured_pairs: &MeasuredPairs<'_>, most: Nm) -> Nm
     requires { IsLength most }
-    ensures { IsGap (AllFacingsKeep (facings_of facings.now)) most result }
+    ensures { IsGap (AllMeasuredPairsKeep (measured_pairs_of measured_pairs.now)) most result }
 {
-    match facings {
-        Facings::Nothing => most,
-        Facings::OneWay(one) => sides_gap(&one.own, &one.others, most),
-        Facings::BothWays(there, back) => {
+    match measured_pairs {
+        MeasuredPairs::Nothing => most,
+        MeasuredPairs::OneWay(one) => sides_gap(&one.own, &one.others, most),
+        MeasuredPairs::BothWays(there, back) => {
             let gap = sides_gap(&there.own, &there.others, most);
             sides_gap(&back.own, &back.others, gap)
         }
@@ -411,8 +431,14 @@ fn gap_of(facings: &Facings<'_>, most: Nm) -> Nm
 
 /// Whether anything may face anything. It is a quick test: only a no is sure.
 #[inline(always)]
-pub fn may_face(faced: &Facings<'_>, _kind: Kind, _layer: RowLayer, _a: &Item, _b: &Item) -> bool
-    requires { facings_of faced.now ≡ facings _kind _layer _a.now _b.now }
+pub fn may_face(
+    faced: &MeasuredPairs<'_>,
+    _kind: Kind,
+    _layer: RowLayer,
+    _a: &Item,
+    _b: &Item,
+) -> bool
+    requires { measured_pairs_of faced.now ≡ measured_pairs _kind _layer _a.now _b.now }
     ensures meet { result ≡ false → ¬ (MeetAt _kind _layer _a.now _b.now) }
     ensures keep { result ≡ false → (v : ℤ) → KeepAt _kind _layer _a.now _b.now v }
 {
@@ -421,13 +447,13 @@ pub fn may_face(faced: &Facings<'_>, _kind: Kind, _layer: RowLayer, _a: &Item, _
 
 /// Whether some of what faces each other touches or overlaps.
 pub(crate) fn meet_at(
-    faced: &Facings<'_>,
+    faced: &MeasuredPairs<'_>,
     _kind: Kind,
     _layer: RowLayer,
     _a: &Item,
     _b: &Item,
 ) -> bool
-    requires { facings_of faced.now ≡ facings _kind _layer _a.now _b.now }
+    requires { measured_pairs_of faced.now ≡ measured_pairs _kind _layer _a.now _b.now }
     ensures { IsTrue result ↔ MeetAt _kind _layer _a.now _b.now }
 {
     do_meet(faced)
@@ -435,14 +461,14 @@ pub(crate) fn meet_at(
 
 /// The greatest whole number of nanometres from 1 to `most` that all that faces each other keeps, or 0.
 pub(crate) fn gap_at(
-    faced: &Facings<'_>,
+    faced: &MeasuredPairs<'_>,
     _kind: Kind,
     _layer: RowLayer,
     _a: &Item,
     _b: &Item,
     most: Nm,
 ) -> Nm
-    requires same { facings_of faced.now ≡ facings _kind _layer _a.now _b.now }
+    requires same { measured_pairs_of faced.now ≡ measured_pairs _kind _layer _a.now _b.now }
     requires most { IsLength most }
     ensures { IsGap (KeepAt _kind _layer _a.now _b.now) most result }
 {

@@ -2,12 +2,12 @@
 
 ghost use Rattle.std.specs.Prelude.{◌↔◌, IsTrue, MatchOption};
 ghost use Rattle.kind_subjects.specs.TriedLayers.{IsFirst, HoldsNowhere};
-ghost use Rattle.kind_subjects.specs.Facing.{MeetAt};
-ghost use Rattle.kind_subjects.specs.MeasuredPairs.{IsInStack};
+ghost use Rattle.kind_subjects.specs.MeasuredPair.{MeetAt};
+ghost use Rattle.kind_subjects.specs.PairSides.{IsInStack};
 
-use crate::faces::places_between;
 use crate::layer::RowLayer;
-use crate::measure::{facings_at, meet_at};
+use crate::measure::{measured_pairs_at, meet_at};
+use crate::operand_kinds::places_between;
 use crate::places::tried_at;
 use board_items::Item;
 use cond_lang::Kind;
@@ -19,7 +19,7 @@ fn meet_on(kind: Kind, layer: RowLayer, a: &Item, b: &Item) -> bool
     requires { IsInStack layer }
     ensures { IsTrue result ↔ MeetAt kind layer a.now b.now }
 {
-    let faced = facings_at(kind, layer, a, b);
+    let faced = measured_pairs_at(kind, layer, a, b);
     meet_at(&faced, kind, layer, a, b)
 }
 

@@ -3,26 +3,26 @@
 ghost use Rattle.std.specs.Prelude.{◌≡◌, ◌<ℤ◌, pos, true, IsTrue, ◌↔◌, MatchOption};
 ghost use Rattle.plain_types.specs.Lengths.{IsLength};
 ghost use Rattle.geo_seg.specs.Distances.{IsGap};
-ghost use Rattle.kind_subjects.specs.Facing.{facings, apart_by, may_not_meet, KeepAt, MeetAt, TooNear};
-ghost use Rattle.kind_subjects.specs.MeasuredPairs.{facings_of};
+ghost use Rattle.kind_subjects.specs.MeasuredPair.{measured_pairs, apart_by, may_not_meet, KeepAt, MeetAt, TooNear};
+ghost use Rattle.kind_subjects.specs.PairSides.{measured_pairs_of};
 
 use crate::layer::RowLayer;
-use crate::measure::{Facings, gap_at, meet_at};
-use crate::subject::{Faces, Subject, subject_of};
+use crate::measure::{MeasuredPairs, gap_at, meet_at};
+use crate::subject::{OperandKinds, Subject, subject_of};
 use board_items::{Item, Nm};
 use cond_lang::Kind;
 
 #[inline(always)]
-fn apart_by(faces: Faces) -> bool
-    ensures { result ≡ apart_by faces }
+fn apart_by(operand_kinds: OperandKinds) -> bool
+    ensures { result ≡ apart_by operand_kinds }
 {
-    match faces {
-        Faces::Yards => true,
-        Faces::Coppers
-        | Faces::HolesAndCopper
-        | Faces::Holes
-        | Faces::EdgesAndCopper
-        | Faces::Areas => false,
+    match operand_kinds {
+        OperandKinds::Yards => true,
+        OperandKinds::Coppers
+        | OperandKinds::HolesAndCopper
+        | OperandKinds::Holes
+        | OperandKinds::EdgesAndCopper
+        | OperandKinds::Areas => false,
     }
 }
 
@@ -32,7 +32,7 @@ pub fn may_not_meet(kind: Kind) -> bool
     ensures { result ≡ may_not_meet kind }
 {
     match subject_of(kind) {
-        Subject::Sides(faces) => apart_by(faces),
+        Subject::Sides(operand_kinds) => apart_by(operand_kinds),
         Subject::Length(_) | Subject::Whole => false,
     }
 }
@@ -40,14 +40,14 @@ pub fn may_not_meet(kind: Kind) -> bool
 /// The gap on the layer, where the two are nearer than `least`, or meet where they may not.
 #[inline(always)]
 pub fn gap_if_near(
-    faced: &Facings<'_>,
+    faced: &MeasuredPairs<'_>,
     kind: Kind,
     layer: RowLayer,
     a: &Item,
     b: &Item,
     least: Nm,
 ) -> Option<Nm>
-    requires same { facings_of faced.now ≡ facings kind layer a.now b.now }
+    requires same { measured_pairs_of faced.now ≡ measured_pairs kind layer a.now b.now }
     requires least { IsLength least }
     ensures { MatchOption result (¬ (TooNear kind layer a.now b.now least))
         (λ gap. TooNear kind layer a.now b.now least
@@ -72,14 +72,14 @@ pub fn gap_if_near(
 /// Whether `least` is more than nothing and the two keep it on the layer, so that they do not meet there either.
 #[inline(always)]
 pub fn are_kept(
-    faced: &Facings<'_>,
+    faced: &MeasuredPairs<'_>,
     kind: Kind,
     layer: RowLayer,
     a: &Item,
     b: &Item,
     least: Nm,
 ) -> bool
-    requires same { facings_of faced.now ≡ facings kind layer a.now b.now }
+    requires same { measured_pairs_of faced.now ≡ measured_pairs kind layer a.now b.now }
     requires least { IsLength least }
     ensures keep { IsTrue result ↔ ((pos 0 <ℤ least) × KeepAt kind layer a.now b.now least) }
     ensures meet { result ≡ true → ¬ (MeetAt kind layer a.now b.now) }

@@ -6,7 +6,7 @@ ghost use Rattle.kind_subjects.specs.KindLayers.{IsCopper, IsNowhere, IsFacedOn}
 ghost use Rattle.kind_subjects.specs.TriedLayers.{rank, IsTried};
 
 use crate::layer::RowLayer;
-use crate::subject::Faces;
+use crate::subject::OperandKinds;
 use copper_layers::LayerSet;
 
 /// Places in the order of layers, from the one to before the other.
@@ -17,16 +17,19 @@ pub struct Places {
 }
 
 /// The places of all layers on which these parts face each other.
-pub(crate) fn places_of_faces(faces: Faces) -> Places
+pub(crate) fn places_of_operand_kinds(operand_kinds: OperandKinds) -> Places
     ensures bound { result.to ≤ 35 }
-    ensures all { (layer : RowLayer) → IsFacedOn faces layer → (result.from ≤ rank layer)
+    ensures all { (layer : RowLayer) → IsFacedOn operand_kinds layer → (result.from ≤ rank layer)
         × (rank layer < result.to) }
 {
-    match faces {
-        Faces::Coppers | Faces::HolesAndCopper | Faces::Areas => Places { from: 0, to: 32 },
-        Faces::Yards => Places { from: 32, to: 34 },
-        Faces::Holes => Places { from: 34, to: 35 },
-        Faces::EdgesAndCopper => Places { from: 0, to: 35 },
+    match operand_kinds {
+        OperandKinds::Coppers | OperandKinds::HolesAndCopper | OperandKinds::Areas => Places {
+            from: 0,
+            to: 32,
+        },
+        OperandKinds::Yards => Places { from: 32, to: 34 },
+        OperandKinds::Holes => Places { from: 34, to: 35 },
+        OperandKinds::EdgesAndCopper => Places { from: 0, to: 35 },
     }
 }
 

@@ -7,8 +7,8 @@ ghost use Rattle.kind_subjects.specs.declared.layer.RowLayer.{RowLayer};
 ghost use Rattle.kind_subjects.specs.TriedLayers.{rank, IsTried};
 ghost use Rattle.kind_subjects.specs.SingleLayers.{LiesAt, IsAskedAt, IsOnCopper, IsMeasuredAt};
 
-use crate::faces::{layers_of, places_in};
 use crate::layer::RowLayer;
+use crate::operand_kinds::{layers_of, places_in};
 use crate::places::Places;
 use crate::subject::{Measure, Subject, subject_of};
 use board_items::{Item, Part, What};

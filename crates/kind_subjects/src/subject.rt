@@ -7,7 +7,7 @@ use cond_lang::Kind;
 
 /// Which parts of one item face which parts of another.
 #[derive(Clone, Copy)]
-pub enum Faces {
+pub enum OperandKinds {
     /// Copper and copper.
     Coppers,
     /// The hole of each and the copper of the other.
@@ -39,7 +39,7 @@ pub enum Measure {
 #[derive(Clone, Copy)]
 pub enum Subject {
     /// What faces each other of two items.
-    Sides(Faces),
+    Sides(OperandKinds),
     /// A length of a single item.
     Length(Measure),
     /// A single item as a whole.
@@ -52,12 +52,16 @@ pub(crate) fn subject_of(kind: Kind) -> Subject
     ensures { result ≡ subject_of kind }
 {
     match kind {
-        Kind::Short | Kind::Clearance | Kind::PhysicalClearance => Subject::Sides(Faces::Coppers),
-        Kind::HoleClearance | Kind::PhysicalHoleClearance => Subject::Sides(Faces::HolesAndCopper),
-        Kind::HoleToHole => Subject::Sides(Faces::Holes),
-        Kind::EdgeClearance => Subject::Sides(Faces::EdgesAndCopper),
-        Kind::CourtyardClearance => Subject::Sides(Faces::Yards),
-        Kind::Keepout => Subject::Sides(Faces::Areas),
+        Kind::Short | Kind::Clearance | Kind::PhysicalClearance => Subject::Sides(
+            OperandKinds::Coppers,
+        ),
+        Kind::HoleClearance | Kind::PhysicalHoleClearance => Subject::Sides(
+            OperandKinds::HolesAndCopper,
+        ),
+        Kind::HoleToHole => Subject::Sides(OperandKinds::Holes),
+        Kind::EdgeClearance => Subject::Sides(OperandKinds::EdgesAndCopper),
+        Kind::CourtyardClearance => Subject::Sides(OperandKinds::Yards),
+        Kind::Keepout => Subject::Sides(OperandKinds::Areas),
         Kind::TrackWidth => Subject::Length(Measure::Width),
         Kind::ViaDiameter => Subject::Length(Measure::Diameter),
         Kind::HoleSize => Subject::Length(Measure::Bore),

@@ -1,5 +1,5 @@
 -- The members of the objects in a project, by their names. A member that is null counts as not there, and of two of one name
--- the first counts. One of another kind than is wanted is refused as Shape, and a number that is none or too great or below 0 as
+-- the first counts. One of another kind than is wanted is refused as Shape, and a number that is invalid or too great or below 0 as
 -- BadNumber, each at the place where the member's value begins.
 use Rattle.std.specs.Prelude.{ℕ, ℤ, pos, int_lt, List, [], ◌∷◌, Bool, Option, None, Some, Result, Ok, Err, if◌then◌else◌}
 use Rattle.std.specs.List.{cons_option}

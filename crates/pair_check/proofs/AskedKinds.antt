@@ -27,7 +27,7 @@ use Rattle.kind_subjects.specs.TriedLayers.{asked_layer}
 use Rattle.pair_check.specs.Asked.{asks, some_asks, AsksNothing}
 use Rattle.pair_check.specs.Pairs.{Deciders, Pair, IsNearAt}
 use Rattle.pair_check.specs.Singles.{bans_what, bans_item, ForbidsBy, Forbids, IsForbiddenAt}
-use Rattle.kind_subjects.specs.Facing.{may_not_meet}
+use Rattle.kind_subjects.specs.MeasuredPair.{may_not_meet}
 use Rattle.kind_subjects.proofs.NearLayers.{not_near, kept_none}
 use Rattle.kind_subjects.proofs.Unfaced.{unlike}
 use Rattle.pair_check.proofs.NearPicks.{at_has}

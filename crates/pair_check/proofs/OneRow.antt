@@ -17,7 +17,7 @@ use Rattle.kind_subjects.specs.declared.layer.RowLayer.{RowLayer}
 use Rattle.kind_subjects.specs.Subjects.{subject_of}
 use Rattle.pair_check.specs.PlainRow.{PlainRow}
 use Rattle.kind_subjects.specs.TriedLayers.{IsFirst, asked_layer}
-use Rattle.kind_subjects.specs.Facing.{MeetAt, KeepAt}
+use Rattle.kind_subjects.specs.MeasuredPair.{MeetAt, KeepAt}
 use Rattle.pair_check.specs.Pairs.{Deciders, Pair, IsPickOf, IsNearAt, SaysMeeting, SaysNear, BreaksBy, Breaks}
 use Rattle.kind_subjects.specs.LimitedLengths.{length_of, times_in, times, IsQuotient}
 use Rattle.pair_check.specs.Singles.{IsPickAlone, IsOffAt, IsForbiddenAt, BreaksLimit, SaysLimit, SaysForbidden, BreaksAloneBy, BreaksAlone}

@@ -8,11 +8,11 @@ use Rattle.cond_lang.specs.declared.kind.Kind.{Kind}
 use Rattle.cond_lang.specs.declared.kind.Kind.TheVariants.{Short, Clearance, HoleClearance, HoleToHole, EdgeClearance, CourtyardClearance, Keepout, PhysicalClearance, PhysicalHoleClearance}
 use Rattle.pair_check.specs.declared.asked.Asked.{Asked}
 use Rattle.kind_subjects.specs.declared.layer.RowLayer.{RowLayer}
-use Rattle.kind_subjects.specs.declared.subject.Faces.TheVariants.{EdgesAndCopper}
+use Rattle.kind_subjects.specs.declared.subject.OperandKinds.TheVariants.{EdgesAndCopper}
 use Rattle.kind_subjects.specs.declared.subject.Subject.TheVariants.{Sides}
 use Rattle.pair_check.specs.PlainRow.{PlainRow}
 use Rattle.kind_subjects.specs.Compared.{share_net, keeps_out, are_round_holes, is_compared}
-use Rattle.kind_subjects.specs.Facing.{lines_of}
+use Rattle.kind_subjects.specs.MeasuredPair.{lines_of}
 use Rattle.pair_check.specs.Pairs.{Deciders, Pair, IsNearAt, Breaks}
 use Rattle.pair_check.specs.Asked.{IsNoteOf}
 use Rattle.pair_check.specs.Rows.{AreRowsWhere}

@@ -16,7 +16,7 @@ use Rattle.kind_subjects.specs.declared.layer.RowLayer.{RowLayer}
 use Rattle.pair_check.specs.PlainRow.{PlainRow, AreOrdered, IdsAreInOrder}
 use Rattle.kind_subjects.specs.TriedLayers.{IsFirst, HoldsNowhere}
 use Rattle.kind_subjects.specs.Compared.{is_compared}
-use Rattle.kind_subjects.specs.Facing.{MeetAt}
+use Rattle.kind_subjects.specs.MeasuredPair.{MeetAt}
 use Rattle.pair_check.specs.Pairs.{Deciders, Pair, PairMeets, SaysMeeting, SaysNear, BreaksBy, Breaks}
 use Rattle.pair_check.specs.Asked.{AsksNothing}
 use Rattle.pair_check.specs.Rows.{Checked, deciders, Stands, IsRowOfTwo, AreRowsWhere, AreRowsOfPair}

@@ -19,7 +19,7 @@ use Rattle.kind_subjects.specs.declared.layer.RowLayer.{RowLayer}
 use Rattle.pair_check.specs.PlainRow.{PlainRow, MakesRows}
 use Rattle.kind_subjects.specs.TriedLayers.{IsFirst, HoldsSomewhere, asked_layer}
 use Rattle.kind_subjects.specs.Compared.{is_compared}
-use Rattle.kind_subjects.specs.Facing.{MeetAt, KeepAt, TooNear}
+use Rattle.kind_subjects.specs.MeasuredPair.{MeetAt, KeepAt, TooNear}
 
 -- what decides: the copper layers of the board, its least values, and the rules
 pub record Deciders : Type 0 where

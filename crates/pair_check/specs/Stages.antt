@@ -13,7 +13,7 @@ use Rattle.pair_check.specs.declared.found.Off.{Off}
 use Rattle.pair_check.specs.declared.found.Forbidden.{Forbidden}
 use Rattle.pair_check.specs.PlainRow.{PlainRow, MakesRows}
 use Rattle.kind_subjects.specs.declared.layer.RowLayer.{RowLayer}
-use Rattle.kind_subjects.specs.Facing.{MeetAt, KeepAt, TooNear}
+use Rattle.kind_subjects.specs.MeasuredPair.{MeetAt, KeepAt, TooNear}
 use Rattle.pair_check.specs.Pairs.{Deciders, Pair, IsPickOf, IsNearAt, Breaks}
 use Rattle.pair_check.specs.Singles.{IsPickAlone, BreaksLimit, Forbids, BreaksAlone}
 use Rattle.pair_check.specs.Rows.{AreRowsWhere}

@@ -11,8 +11,8 @@ ghost use Rattle.cond_lang.specs.CheckKinds.{family, kind_number};
 ghost use Rattle.pair_check.specs.PlainRow.{PlainRow};
 ghost use Rattle.kind_subjects.specs.TriedLayers.{IsTried, IsFirst, HoldsNowhere};
 ghost use Rattle.kind_subjects.specs.Compared.{is_compared};
-ghost use Rattle.kind_subjects.specs.Facing.{facings};
-ghost use Rattle.kind_subjects.specs.MeasuredPairs.{facings_of};
+ghost use Rattle.kind_subjects.specs.MeasuredPair.{measured_pairs};
+ghost use Rattle.kind_subjects.specs.PairSides.{measured_pairs_of};
 ghost use Rattle.rule_pick.specs.Picks.{pick_of};
 ghost use Rattle.pair_check.specs.Pairs.{IsPickOf, IsGivenPlace, IsNearAt};
 ghost use Rattle.pair_check.specs.Asked.{AsksNothing, IsNoteOf};
@@ -30,8 +30,8 @@ use crate::steps::Steps;
 use crate::view::CheckView;
 use cond_lang::{Kind, Severity};
 use kind_subjects::{
-    Facings, RowLayer, are_kept, facings_at, first_meeting, gap_if_near, is_compared, may_face,
-    places_between, share_net, tried_at,
+    MeasuredPairs, RowLayer, are_kept, first_meeting, gap_if_near, is_compared, may_face,
+    measured_pairs_at, places_between, share_net, tried_at,
 };
 use rule_pick::{Picked, Source, pick};
 use std::alloc::Global;
@@ -44,11 +44,11 @@ fn picked_at(
     kind: Kind,
     pair: Pair<'_>,
     layer: RowLayer,
-    faced: &Facings<'_>,
+    faced: &MeasuredPairs<'_>,
 ) -> Option<Picked>
     requires few { AreCounted view.now.rules.now }
     requires measured { family kind ≡ Family.Keeps }
-    requires same { facings_of faced.now ≡ facings kind layer pair.a.now pair.b.now }
+    requires same { measured_pairs_of faced.now ≡ measured_pairs kind layer pair.a.now pair.b.now }
     ensures { MatchOption result (AreUnfaced kind (pair_of pair.entry) layer)
         (λ picked. IsPickOf (deciders_of view.now) kind (pair_of pair.entry) layer
         (pick_of picked)) }
@@ -78,7 +78,7 @@ fn near_at(view: &CheckView, kind: Kind, pair: Pair<'_>, layer: RowLayer) -> Opt
         (λ near. (near.layer ≡ layer)
         × IsTooNear (deciders_of view.now) kind (pair_of pair.entry) near) }
 {
-    let faced = facings_at(kind, layer, pair.a, pair.b);
+    let faced = measured_pairs_at(kind, layer, pair.a, pair.b);
     let picked = picked_at(view, kind, pair, layer, &faced)?;
     if !counts(picked.severity) {
         return None;
@@ -231,7 +231,7 @@ fn is_kept_at(view: &CheckView, pair: Pair<'_>, layer: RowLayer) -> bool
     ensures { result ≡ true → ¬ (IsNearOrMeets (deciders_of view.now) (pair_of pair.entry) layer) }
 {
     let kind = Kind::Clearance;
-    let faced = facings_at(kind, layer, pair.a, pair.b);
+    let faced = measured_pairs_at(kind, layer, pair.a, pair.b);
     match picked_at(view, kind, pair, layer, &faced) {
         Some(picked) => are_kept(&faced, kind, layer, pair.a, pair.b, picked.least),
         None => true,

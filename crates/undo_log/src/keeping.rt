@@ -60,7 +60,7 @@ pub(crate) fn carry_out<R: Threads + Sync + AllocGlobal, G: Gate>(
     ensures refused { IfErr result (λ why. (why ≡ EditError.OutOfMemory)
         ⊎ (Answers session.old.state (plain_command command.now) (Err why)
         × (session.new ≡ session.old))) }
-    ensures wanting { OnErr result (IsStoppedOrSame session.old session.new) }
+    ensures memory_ran_out { OnErr result (IsStoppedOrSame session.old session.new) }
     ensures unchanged { OnErr result
         ((back.new.items ≡ back.old.items) × (on.new.items ≡ on.old.items)) }
 {
@@ -88,7 +88,7 @@ pub(crate) fn switch<R: Threads + Sync + AllocGlobal, G: Gate>(
         IsSwitched session.old session.new (nearest_first from.old.items)
         (nearest_first from.new.items) (nearest_first to.old.items)
         (nearest_first to.new.items) applied × IsDealt workers applied) }
-    ensures wanting { OnErr result (IsStoppedOrSame session.old session.new) }
+    ensures memory_ran_out { OnErr result (IsStoppedOrSame session.old session.new) }
 {
     to.reserve(1)?;
     let Some(change) = from.pop() else {

@@ -56,7 +56,7 @@ pub fn take<R: Threads + Sync + AllocGlobal, G: Gate>(
         (IsTaken session.old.state (plain_command command.now) session.new.state) }
     ensures refused { IfErr result
         (IsRefusedHere session.old session.new (plain_command command.now)) }
-    ensures wanting { result ≡ Err TrialError.OutOfMemory
+    ensures memory_ran_out { result ≡ Err TrialError.OutOfMemory
         → IsStoppedOrTook session.old session.new (plain_command command.now) }
 {
     match session.apply_kept(rt, workers, command, gate) {

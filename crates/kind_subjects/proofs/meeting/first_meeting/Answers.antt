@@ -1,6 +1,6 @@
 use Rattle.std.proofs.Common.{Bool, true, false, ◌≡◌}
 use Rattle.kind_subjects.specs.declared.layer.RowLayer.{RowLayer}
-use Rattle.kind_subjects.specs.Facing.{MeetAt}
+use Rattle.kind_subjects.specs.MeasuredPair.{MeetAt}
 use Rattle.kind_subjects.proofs.Unfaced.{meet_within}
 use Rattle.kind_subjects.proofs.TriedLayers.{none_at_start, none_in_none, none_here, none_untried, first_here}
 use Rattle.kind_subjects.proofs.meeting.first_meeting.Goals.{in-Some+else-meet_on, in_default}

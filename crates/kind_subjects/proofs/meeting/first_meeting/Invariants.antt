@@ -1,4 +1,4 @@
-use Rattle.kind_subjects.specs.Facing.{MeetAt}
+use Rattle.kind_subjects.specs.MeasuredPair.{MeetAt}
 use Rattle.kind_subjects.proofs.TriedLayers.{NoneBefore}
 use Rattle.kind_subjects.proofs.meeting.first_meeting.Given as goal
 

@@ -8,7 +8,7 @@ use Rattle.int_algebra.proofs.Scalars.{passed}
 use Rattle.board_items.specs.declared.item.Item.{Item}
 use Rattle.cond_lang.specs.declared.kind.Kind.{Kind}
 use Rattle.kind_subjects.specs.declared.layer.RowLayer.{RowLayer}
-use Rattle.kind_subjects.specs.Facing.{KeepAt}
+use Rattle.kind_subjects.specs.MeasuredPair.{KeepAt}
 use Rattle.kind_subjects.proofs.NearLayers.{gap_reaches, gap_kept, passed_gap, kept_unmet}
 use Rattle.kind_subjects.proofs.near.are_kept.Goals as goal
 

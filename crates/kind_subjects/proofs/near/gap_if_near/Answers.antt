@@ -4,7 +4,7 @@ use Rattle.std.proofs.lemmas.Int.{ints}
 use mir.Syntax.{w64}
 use Rattle.geo_seg.specs.Distances.{IsGap}
 use Rattle.int_algebra.proofs.Scalars.{passed}
-use Rattle.kind_subjects.specs.Facing.{KeepAt}
+use Rattle.kind_subjects.specs.MeasuredPair.{KeepAt}
 use Rattle.kind_subjects.proofs.NearLayers.{not_near, near_of_meeting, kept_none, gap_near, gap_kept, passed_gap}
 use Rattle.kind_subjects.proofs.near.gap_if_near.Goals.{else-apart-via-then-apart+else-meet_at, else-apart-via-else-apart}
 use Rattle.kind_subjects.proofs.near.gap_if_near.Goals as goal

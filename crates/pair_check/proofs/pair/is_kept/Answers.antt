@@ -2,7 +2,7 @@ use Rattle.std.proofs.Common.{inl, inr, ℕ, ◌<◌, ◌≤◌}
 use Rattle.cond_lang.specs.declared.kind.Kind.TheVariants.{Clearance}
 use Rattle.kind_subjects.specs.declared.layer.RowLayer.{RowLayer}
 use Rattle.kind_subjects.specs.TriedLayers.{rank}
-use Rattle.kind_subjects.specs.MeasuredPairs.{FaceWithin}
+use Rattle.kind_subjects.specs.PairSides.{FaceWithin}
 use Rattle.pair_check.specs.Pairs.{Deciders, Pair}
 use Rattle.pair_check.specs.Rows.{deciders}
 use Rattle.pair_check.specs.CheckViews.{checked_by}

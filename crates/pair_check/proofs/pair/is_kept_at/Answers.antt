@@ -5,7 +5,7 @@ use Rattle.int_algebra.proofs.Scalars.{passed_length}
 use Rattle.cond_lang.specs.declared.kind.Kind.TheVariants.{Clearance}
 use Rattle.kind_subjects.specs.TriedLayers.{asked_layer}
 use Rattle.kind_subjects.specs.declared.layer.RowLayer.{RowLayer}
-use Rattle.kind_subjects.specs.Facing.{MeetAt, KeepAt}
+use Rattle.kind_subjects.specs.MeasuredPair.{MeetAt, KeepAt}
 use Rattle.pair_check.specs.Pairs.{Deciders, Pair, IsNearAt}
 use Rattle.pair_check.specs.Rows.{deciders}
 use Rattle.pair_check.specs.CheckViews.{checked_by}

@@ -1,7 +1,7 @@
 use Rattle.std.proofs.Common.{refl, sym, ◌∙◌, IsTrue, arith}
 use Rattle.std.proofs.lemmas.Int.{ints}
 use Rattle.kind_subjects.specs.declared.layer.RowLayer.{RowLayer}
-use Rattle.kind_subjects.specs.Facing.{MeetAt}
+use Rattle.kind_subjects.specs.MeasuredPair.{MeetAt}
 use Rattle.kind_subjects.specs.Compared.{is_compared}
 use Rattle.pair_check.specs.Rows.{deciders}
 use Rattle.pair_check.specs.CheckViews.{checked_by}

@@ -3,7 +3,7 @@ use Rattle.rule_pick.specs.Picks.{Pick, pick_of}
 use Rattle.rule_pick.proofs.OnePick.{one_pick}
 use Rattle.int_algebra.proofs.Scalars.{passed_length}
 use Rattle.kind_subjects.specs.TriedLayers.{asked_layer}
-use Rattle.kind_subjects.specs.Facing.{KeepAt, TooNear}
+use Rattle.kind_subjects.specs.MeasuredPair.{KeepAt, TooNear}
 use Rattle.pair_check.specs.Rows.{deciders}
 use Rattle.pair_check.specs.CheckViews.{checked_by}
 use Rattle.kind_subjects.proofs.NearLayers.{not_near, passed_gap}
