@@ -1,5 +1,5 @@
 -- What is found again after an edit, where the ids and the rules were lent.
-use Rattle.std.proofs.Common.{◌≡◌, ◌∙◌, sym, subst, ℕ, ℤ, Bool, true, false, List, map, Option}
+use Rattle.std.proofs.Common.{◌≡◌, ◌∙◌, sym, subst, ℕ, ℤ, false, List, map, Option}
 use Rattle.int_algebra.proofs.Scalars.{passed}
 use Rattle.plain_types.specs.Lengths.{IsLength}
 use Rattle.board_items.specs.declared.item.Item.{Item}
@@ -15,17 +15,15 @@ use Rattle.board_index.specs.IndexedItems.{IsIndexOfItems}
 use Rattle.row_check.specs.RowsOfTile.{IsIndexOf}
 use Rattle.net_groups.specs.NetParts.{PlainNetPart, AreParts}
 use Rattle.kept_facts.specs.FactUpdates.{AreMarksBefore, AreChanged}
-use Rattle.board_edits.specs.Operations.{PlainOperation, After}
 use Rattle.board_edits.specs.TouchedItems.{AreEdited, AreKnown}
 use Rattle.drc_state.specs.States.{checked_in}
 use Rattle.drc_session.specs.declared.parts.Parts.{Parts}
 use Rattle.drc_session.specs.declared.editing.Look.{Look}
 use Rattle.drc_session.specs.SessionContents.{state_with, IsKeptOf, IsKept}
 use Rattle.drc_session.specs.Looks.{HasNetsOf, AsksNone}
-use Rattle.drc_session.specs.EditSteps.{is_move, IsLook, IsEditedFrom}
+use Rattle.drc_session.specs.EditSteps.{IsLook, IsEditedFrom}
 use Rattle.drc_session.proofs.Clearances.{as_passed}
 use Rattle.drc_session.proofs.Known.{known_look}
-use Rattle.drc_session.proofs.MovedNets.{nets_of_moved}
 
 -- what was looked up of the ids that were touched is that of the edit's ids
 pub look_of_ids : (old : PlainBoard) (touched lent ids : List ℕ) → lent ≡ touched → AreKnown old touched ids → (reach : ℤ) (look : Look) → IsLook old lent reach look → IsLook old ids reach look
@@ -42,10 +40,10 @@ module _ (old : Parts) (kept : IsKept old) (board : PlainBoard) (ids lent : List
       let lent_marks = subst (λ (m : List (Option Item)). AreMarksBefore old.board lent m) (sym e) (subst (λ (k : List ℕ). AreMarksBefore old.board k marks) (sym same) before) in
       subst (λ (k : List ℕ). HasFacts board old.classes facts × AreChanged old.board board old.classes k old.facts facts changed) same (law old.board edit_of_lent lent_marks kept.facts)
 
-  pub nets_recomputed : (before after : List PlainNetPart) → before ≡ old.nets.items → (touched : List ℕ) → HasNetsOf old.board ids touched → (moved : Bool) → (moved ≡ true → HasNetsOf board ids touched)
-      → ((was : PlainBoard) → IsEdit was board lent → HasNetsOf was lent touched → (moved ≡ true → HasNetsOf board lent touched) → AreParts was before → AreParts board after) → AreParts board after
-  nets_recomputed before after e touched had moved has law =
-      law old.board edit_of_lent (subst (λ (k : List ℕ). HasNetsOf old.board k touched) (sym same) had) (λ m. subst (λ (k : List ℕ). HasNetsOf board k touched) (sym same) (has m)) (subst (λ (n : List PlainNetPart). AreParts old.board n) (sym e) kept.nets)
+  pub nets_recomputed : (before after : List PlainNetPart) → before ≡ old.nets.items → (touched : List ℕ) → HasNetsOf old.board ids touched
+      → ((was : PlainBoard) → IsEdit was board lent → HasNetsOf was lent touched → AreParts was before → AreParts board after) → AreParts board after
+  nets_recomputed before after e touched has law =
+      law old.board edit_of_lent (subst (λ (k : List ℕ). HasNetsOf old.board k touched) (sym same) has) (subst (λ (n : List PlainNetPart). AreParts old.board n) (sym e) kept.nets)
 
   pub items_recomputed : (index : PlainIndex) → ((was : PlainBoard) → IsEdit was board lent → IsIndexOfItems was old.index → IsIndexOfItems board index) → IsIndexOfItems board index
   items_recomputed index law = law old.board edit_of_lent kept.index.items
@@ -72,12 +70,11 @@ pub looked_passed : (was : PlainBoard) (ids : List ℕ) (reach : ℤ) (look : Lo
 looked_passed was ids reach look length l = subst (λ (z : ℤ). IsLook was ids z look) (as_passed reach length) l
 
 pub edited_from : (old : Parts) (board : PlainBoard) (touched lent own ids : List ℕ) (look : Look) → IsKept old → lent ≡ touched → AreKnown old.board touched own → IsLook old.board lent (passed old.reach) look → AreEdited old.board board own → ids ≡ own
-    → (operation : PlainOperation) → After old.board operation board → look.moved ≡ is_move operation → IsEditedFrom old.board (record old { board = board }) ids look
-edited_from old board touched lent own ids look kept e known looked edited same operation after moved =
-    let own_look = look_of_ids old.board touched lent own e known (passed old.reach) look looked in
-    let its_look = subst (λ (k : List ℕ). IsLook old.board k old.reach look) (sym same) (subst (λ (z : ℤ). IsLook old.board own z look) (sym (as_passed old.reach kept.in_range)) own_look) in record {
-      edited = subst (λ (k : List ℕ). AreEdited old.board board k) (sym same) edited;
-      kept = kept_with old.board board old kept;
-      looked = its_look;
-      nets = λ so. nets_of_moved old.board board operation after (sym moved ∙ so) ids look.nets.items its_look.nets;
-    }
+    → IsEditedFrom old.board (record old { board = board }) ids look
+edited_from old board touched lent own ids look kept e known looked edited same = record {
+  edited = subst (λ (k : List ℕ). AreEdited old.board board k) (sym same) edited;
+  kept = kept_with old.board board old kept;
+  looked =
+      let own_look = look_of_ids old.board touched lent own e known (passed old.reach) look looked in
+      subst (λ (k : List ℕ). IsLook old.board k old.reach look) (sym same) (subst (λ (z : ℤ). IsLook old.board own z look) (sym (as_passed old.reach kept.in_range)) own_look);
+}

@@ -4,7 +4,6 @@ pub mod Clearances
 pub mod EditEffect
 pub mod Enough
 pub mod Known
-pub mod MovedNets
 pub mod Settled
 pub mod Kept
 pub mod Rechecked

@@ -1,11 +1,10 @@
 -- The steps of an edit.
-use Rattle.std.specs.Prelude.{◌≡◌, ◌++◌, ℕ, ℤ, Bool, true, false, List, [], All}
+use Rattle.std.specs.Prelude.{◌≡◌, ◌++◌, ℕ, ℤ, false, List, [], All}
 use Rattle.geo_seg.specs.declared.boxes.Bounds.{Bounds}
 use Rattle.geo_seg.specs.Boxes.{FitsIndex}
 use Rattle.board_items.specs.Boards.{PlainBoard}
 use Rattle.box_index.specs.Tiles.{PlainIndex, dirty_of}
 use Rattle.kept_facts.specs.FactUpdates.{AreMarksBefore}
-use Rattle.board_edits.specs.Operations.{PlainOperation, shift}
 use Rattle.board_edits.specs.TouchedItems.{AreEdited}
 use Rattle.drc_session.specs.declared.editing.Look.{Look}
 use Rattle.drc_session.specs.declared.parts.Parts.{Parts}
@@ -21,17 +20,11 @@ pub record IsLook (board : PlainBoard) (ids : List ℕ) (reach : ℤ) (look : Lo
   pub none : ids ≡ [] → look.marks.items ≡ []
   pub asks : look.asked ≡ false → AsksNone board ids reach
 
--- the deed moves a unit
-abbrev pub is_move : PlainOperation → Bool
-is_move (shift unit dx dy) = true
-is_move operation = false
-
 -- an edit of these ids was done to the board, and this was looked up before it; what else is held is still that of the board before it
 pub record IsEditedFrom (old : PlainBoard) (parts : Parts) (ids : List ℕ) (look : Look) : Type 0 where
   pub edited : AreEdited old parts.board ids
   pub kept : IsKeptOf old parts
   pub looked : IsLook old ids parts.reach look
-  pub nets : look.moved ≡ true → HasNetsOf parts.board ids look.nets.items
 
 -- the tiles that meet these boxes, or those of the items of the ids as they are
 pub record AreTilesNear (board : PlainBoard) (index : PlainIndex) (ids : List ℕ) (before : List Bounds) (tiles : List ℕ) : Type 0 where

@@ -1,6 +1,6 @@
 //! Edits of the board.
 
-ghost use Rattle.std.specs.Prelude.{◌≡◌, ◌≢◌, ◌<◌, ℕ, true, false, [], List, length, All, Contains, OnOk, IfOk};
+ghost use Rattle.std.specs.Prelude.{◌≡◌, ◌≢◌, ◌<◌, true, false, [], List, length, All, OnOk, IfOk};
 ghost use Rattle.std.specs.List.Sorted.{IsStrictlyIncreasing};
 ghost use Rattle.plain_types.specs.Limits.{AreCounted, IsWorkerCount};
 ghost use Rattle.plain_types.specs.Lengths.{IsLength};
@@ -23,7 +23,7 @@ ghost use Rattle.drc_state.specs.StateChanges.{edit, Makes, IsInverseChange};
 ghost use Rattle.drc_session.specs.Sessions.{IsApplied, IsDealt};
 ghost use Rattle.drc_session.specs.SessionContents.{state_of, state_with, IsKept};
 ghost use Rattle.drc_session.specs.Looks.{HasNetsOf};
-ghost use Rattle.drc_session.specs.EditSteps.{is_move, IsLook, IsEditedFrom, AreTilesNear};
+ghost use Rattle.drc_session.specs.EditSteps.{IsLook, IsEditedFrom, AreTilesNear};
 
 use crate::applied::Applied;
 use crate::checking::{Near, check_all, check_near};
@@ -44,21 +44,13 @@ use std::thread::Threads;
 use tile_pool::Gate;
 
 /// What is looked up, before an edit, of the items that it touches: their boxes, their nets, their areas and bodies, and whether
-/// one of them asks for as much as the reach. Items that are moved keep their nets.
+/// one of them asks for as much as the reach.
 #[derive(Drop)]
 pub(crate) struct Look {
     pub(crate) boxes: Vec<Bounds>,
     pub(crate) nets: Vec<u32>,
     pub(crate) marks: Vec<Option<Item>>,
     pub(crate) asked: bool,
-    pub(crate) moved: bool,
-}
-
-/// Whether the deed moves a unit.
-fn is_move(operation: &Operation) -> bool
-    ensures { result ≡ is_move (plain_operation operation.now) }
-{
-    matches!(operation, Operation::Shift { .. })
 }
 
 /// Equal areas and bodies that stand under the ids; none where there is no id.
@@ -72,16 +64,9 @@ fn marks_of(alloc: Global, board: &Board, ids: &[u32]) -> Result<Vec<Option<Item
     marks_before(alloc, board, ids)
 }
 
-/// What is looked up of the items of these ids before an edit. `moved` tells whether it moves them.
-fn look_up(
-    alloc: Global,
-    board: &Board,
-    ids: &[u32],
-    reach: Nm,
-    moved: bool,
-) -> Result<Look, AllocError>
-    ensures look { IfOk result (IsLook board.now ids.now reach) }
-    ensures moved { IfOk result (λ look. look.moved ≡ moved) }
+/// What is looked up of the items of these ids.
+fn look_up(alloc: Global, board: &Board, ids: &[u32], reach: Nm) -> Result<Look, AllocError>
+    ensures { IfOk result (IsLook board.now ids.now reach) }
 {
     let mut boxes = Vec::new(alloc);
     push_boxes(board, ids, &mut boxes)?;
@@ -94,7 +79,6 @@ fn look_up(
         nets,
         marks,
         asked,
-        moved,
     })
 }
 
@@ -121,27 +105,8 @@ fn index_recomputed(
     Ok(())
 }
 
-/// Appends the nets of the items of these ids after an edit. Items that were moved have those that they had.
-fn push_new_nets(
-    board: &Board,
-    ids: &[u32],
-    moved: bool,
-    nets: &mut Vec<u32>,
-) -> Result<(), AllocError>
-    ensures kept { OnOk result
-        ((net : ℕ) → Contains nets.old.items net → Contains nets.new.items net) }
-    ensures nets { OnOk result
-        ((moved ≡ true → HasNetsOf board.now ids.now nets.old.items)
-        → HasNetsOf board.now ids.now nets.new.items) }
-{
-    if moved {
-        return Ok(());
-    }
-    push_nets(board, ids, nets)
-}
-
 /// Makes the parts of nets, after an edit of these ids, those of the board as it is now. `touched` has the nets that the items of
-/// the ids had; where they were moved, these are the nets that they have.
+/// the ids had.
 fn nets_recomputed<R: Threads + Sync>(
     rt: &R,
     workers: u32,
@@ -149,15 +114,13 @@ fn nets_recomputed<R: Threads + Sync>(
     nets: &mut [NetPart],
     ids: &[u32],
     mut touched: Vec<u32>,
-    moved: bool,
 ) -> Result<(), AllocError>
     ensures { (old : PlainBoard) → IsEdit old board.now ids.now
-        → HasNetsOf old ids.now touched.items
-        → (moved ≡ true → HasNetsOf board.now ids.now touched.items) → AreParts old nets.old
+        → HasNetsOf old ids.now touched.items → AreParts old nets.old
         → OnOk result (AreParts board.now nets.new) }
 {
     let alloc = *touched.allocator();
-    push_new_nets(board, ids, moved, &mut touched)?;
+    push_nets(board, ids, &mut touched)?;
     put_in_order(&mut touched);
     update_parts(rt, alloc, workers, board, nets, &touched)
 }
@@ -274,15 +237,7 @@ fn find_recomputed<R: Threads + Sync, G: Gate>(
         ids,
         &look.marks,
     )?;
-    nets_recomputed(
-        rt,
-        workers,
-        &parts.board,
-        &mut parts.nets,
-        ids,
-        look.nets,
-        look.moved,
-    )?;
+    nets_recomputed(rt, workers, &parts.board, &mut parts.nets, ids, look.nets)?;
     let effects = EditEffects {
         changed,
         boxes: look.boxes,
@@ -316,8 +271,7 @@ pub(crate) fn edit_board<R: Threads + Sync, G: Gate>(
         → plain_operation r.1 ≡ nothing) }
 {
     let touched = ids_touched(alloc, &parts.board, &operation)?;
-    let moved = is_move(&operation);
-    let look = look_up(alloc, &parts.board, &touched, parts.reach, moved)?;
+    let look = look_up(alloc, &parts.board, &touched, parts.reach)?;
     let made = make(alloc, &mut parts.board, operation, touched)?;
     let applied = find_recomputed(rt, alloc, workers, parts, &made.ids, look, gate)?;
     Ok((applied, made.back))

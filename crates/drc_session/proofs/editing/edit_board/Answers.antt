@@ -10,7 +10,7 @@ pub find_recomputed-requires-clause-edited : goal.find_recomputed-requires-claus
 find_recomputed-requires-clause-edited g c κs within =
     let old = c.args.parts.now in
     let known = c.in_ok-made.ensures in
-    (old.board, edited_from old c.make.new.board _ c.deref.result.now c.in_ok-made.made.ids.items c.deref-2.result.now c.in_ok-look.look c.requires.kept (c.deref.ensures.value ∙ c.in_ok-touched.ensures) known.known c.in_ok-look.ensures.look known.edited c.deref-2.ensures.value (plain_operation c.args.operation) known.after (c.in_ok-look.ensures.moved ∙ c.is_move-moved.ensures))
+    (old.board, edited_from old c.make.new.board _ c.deref.result.now c.in_ok-made.made.ids.items c.deref-2.result.now c.in_ok-look.look c.requires.kept (c.deref.ensures.value ∙ c.in_ok-touched.ensures) known.known c.in_ok-look.ensures known.edited c.deref-2.ensures.value)
 
 pub returns-clause-makes : goal.returns-clause-makes
 returns-clause-makes g c =
@@ -20,7 +20,7 @@ pub returns-clause-applied : goal.returns-clause-applied
 returns-clause-applied g c =
     let old = c.args.parts.now in
     let known = c.in_ok-made.ensures in
-    let from = edited_from old c.make.new.board _ c.deref.result.now c.in_ok-made.made.ids.items c.deref-2.result.now c.in_ok-look.look c.requires.kept (c.deref.ensures.value ∙ c.in_ok-touched.ensures) known.known c.in_ok-look.ensures.look known.edited c.deref-2.ensures.value (plain_operation c.args.operation) known.after (c.in_ok-look.ensures.moved ∙ c.is_move-moved.ensures) in
+    let from = edited_from old c.make.new.board _ c.deref.result.now c.in_ok-made.made.ids.items c.deref-2.result.now c.in_ok-look.look c.requires.kept (c.deref.ensures.value ∙ c.in_ok-touched.ensures) known.known c.in_ok-look.ensures known.edited c.deref-2.ensures.value in
     (c.in_ok-applied.ensures.applied old.board from, c.in_ok-applied.ensures.dealt)
 
 pub returns-clause-back : goal.returns-clause-back

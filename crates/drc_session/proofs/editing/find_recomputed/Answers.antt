@@ -61,7 +61,7 @@ returns-clause-kept g c =
     let items = items_recomputed old kept parts.board ids ids refl h.edited c.index_recomputed.new.index c.in_ok-index_recomputed.ensures.items in
     let index = index_of_items old parts.board c.index_recomputed.new.index after.result after.ensures.in_range c.in_ok-index_recomputed.ensures.reach items far in
     let facts = facts_recomputed old kept parts.board ids ids refl h.edited c.args.look.marks.items c.deref.result.now c.deref.ensures.value h.looked.marks c.update_facts.new.facts c.in_ok-changed.changed.items c.in_ok-changed.ensures in
-    let nets = nets_recomputed old kept parts.board ids ids refl h.edited c.deref_mut.result.now c.nets_recomputed.new.nets c.deref_mut.ensures.value c.args.look.nets.items h.looked.nets c.args.look.moved h.nets c.in_ok-nets_recomputed.ensures in
+    let nets = nets_recomputed old kept parts.board ids ids refl h.edited c.deref_mut.result.now c.nets_recomputed.new.nets c.deref_mut.ensures.value c.args.look.nets.items h.looked.nets c.in_ok-nets_recomputed.ensures in
     let rows = c.in_ok-applied.ensures.rows (checked_in (state_of old)) (facts.1.step (plain_rules parts.rules).rules) h.kept.rows in
     subst (λ (p : Parts). IsKept p) (sym c.in_ok-applied.ensures.rest)
     (record {
