@@ -201,6 +201,8 @@ def functions_of(crate, path):
         if re.match(r'(impl|pub trait|trait)\b', line):
             owner, of_trait = owner_of(line)
             is_trait = 'trait ' in line.split('{')[0] and not line.startswith('impl')
+            if line.rstrip().endswith('{}'):
+                owner, is_trait, of_trait = '', False, False
         elif line.startswith('}'):
             owner, is_trait, of_trait = '', False, False
         match = OPENING.match(line.strip())

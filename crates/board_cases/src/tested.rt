@@ -28,6 +28,7 @@ enum Wanted {
     Pairs { tile: u32, id: u32 },
 }
 
+/// The rows as they are printed: the items and the kind of each, or `none`.
 fn shown(alloc: Global, rows: &[Row]) -> Result<Vec<u8>, Fault> {
     if rows.is_empty() {
         return Ok(b"none".to_vec(alloc)?);

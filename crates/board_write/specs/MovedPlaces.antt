@@ -21,7 +21,7 @@ abbrev pub content_of : Tree → List ℕ
 content_of (leaf s q content) = content
 content_of (branch s inside) = []
 
--- an atom before other trees, and a number in its stead
+-- an atom before other trees, and a number in its place
 abbrev pub as_atom : Tree → Forest → Forest
 as_atom tree others = atom (span tree) (quoted tree) (content_of tree) others
 

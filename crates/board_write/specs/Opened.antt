@@ -1,4 +1,4 @@
--- The front of a list that is set down.
+-- The beginning of a list that is written: its opening bracket, with the place of the list where that is moved.
 use Rattle.std.specs.Prelude.{◌≡◌, ◌≤◌, ℕ, ◌+◌, true, List, ◌∷◌, ◌++◌}
 use Rattle.sexpr_read.specs.Tree.{Forest, Tree, span, quoted, levels_in}
 use Rattle.sexpr_read.specs.TreeViews.{tree_of, trees_left}
@@ -23,7 +23,7 @@ abbrev pub IsPlaced : Setting → ℕ → Place → List ℕ → List ℕ → Le
 IsPlaced setting from place old new left =
     (left.parts ≡ place.rest) × ((to : ℕ) (others : Forest) → new ++ set_down setting left.from to left.is_first others ≡ old ++ set_down setting from to true (placed place others))
 
--- the front of a list was written, and what is left is less deep
+-- the beginning of a list was written, and what is left is less deep
 pub record IsListOpened (setting : Setting) (moving : Moving) (tree : Tree) (old new : List ℕ) (left : Left) : Type 0 where
   pub text : (to : ℕ) → new ++ set_down setting left.from to left.is_first (updated (within moving) (grove (trees_left left.parts)))
       ≡ old ++ (40 ∷ set_down setting ((span tree).at + 1) to true (updated_inside moving (inside tree)))

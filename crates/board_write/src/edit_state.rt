@@ -153,7 +153,7 @@ fn carry_out<'t>(
     }
 }
 
-/// A course on which nothing is done yet.
+/// The state of a board before any command.
 fn begin<'t>(alloc: Global, board: Board) -> Result<EditState<'t>, AllocError>
     ensures { IfOk result (Reached board []) }
 {

@@ -26,14 +26,14 @@ pub(crate) enum Moving {
     All(Distance),
 }
 
-/// An atom that gives way to a number.
+/// An atom that is replaced by a number.
 #[derive(Clone, Copy)]
 pub(crate) struct Number<'d, 't> {
     pub atom: Node<'d, 't>,
     pub nm: Nm,
 }
 
-/// The place of a list: its head, two numbers in the stead of those that stand there, and what follows them.
+/// The place of a list: its head, two numbers that replace those that stand there, and what follows them.
 #[derive(Clone, Copy)]
 pub(crate) struct Place<'d, 't> {
     pub head: Node<'d, 't>,

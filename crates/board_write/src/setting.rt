@@ -140,7 +140,7 @@ fn append_place<'d, 't>(
     })
 }
 
-/// Appends the front of a list, its own place with it where that is moved, and gives what follows.
+/// Appends the opening bracket of a list, with the place of the list where that is moved, and gives what follows.
 fn append_prefix<'d, 't>(
     out: &mut Vec<u8>,
     setting: Setting<'_>,

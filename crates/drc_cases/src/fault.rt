@@ -33,7 +33,7 @@ pub enum Reason {
 }
 
 impl Reason {
-    /// This in the line of that number.
+    /// A fault for this reason, in the line of that number.
     pub fn at(self, line: usize) -> Fault {
         Fault { line, reason: self }
     }

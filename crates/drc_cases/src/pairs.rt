@@ -52,7 +52,7 @@ fn written(alloc: Global, view: &CheckView<'_>) -> Option<Vec<u8>>
     out.bytes().to_vec(alloc).ok()
 }
 
-/// Those of a board under rules.
+/// The rows of a board under rules, as a report has them.
 fn plain_report(alloc: Global, board: &Board, rules: &Rules) -> Option<Vec<u8>>
     requires { length rules.now.rules ≤ 33_554_432 }
 {

@@ -47,7 +47,7 @@ text_of (Some item) = item_text item
 
 -- ---- rows
 
--- how much a row weighs. Only errors and warnings make rows
+-- the word of a severity. Only errors and warnings make rows
 abbrev pub severity_word : Severity → List ℕ
 severity_word Error = codes "error"
 severity_word Warning = codes "warning"
@@ -65,7 +65,7 @@ layer_text FrontYard = codes "F.CrtYd"
 layer_text BackYard = codes "B.CrtYd"
 layer_text Nowhere = codes "-"
 
--- how much it weighs, what is broken, and where
+-- the severity of a row, the kind that is broken, and the layer
 abbrev pub head_text : PlainRow → List ℕ
 head_text row = severity_word row.severity ++ codes " " ++ kind_name row.kind ++ codes " " ++ layer_text row.layer ++ codes ": "
 

@@ -33,7 +33,7 @@ impl Model for ReportBuffer {
 }
 
 impl ReportBuffer {
-    /// Nothing yet.
+    /// An empty buffer.
     pub fn new() -> ReportBuffer
         ensures { result ≡ [] }
     {

@@ -42,7 +42,7 @@ fn layer_text(row: &Row) -> &'static [u8]
     }
 }
 
-/// Puts into the buffer how much a row weighs, what is broken, and where.
+/// Puts into the buffer the severity of a row, the kind that is broken, and the layer.
 fn push_head<W: Sink>(buffer: &mut ReportBuffer, out: &mut W, row: &Row) -> Result<(), Failed>
     ensures { Buffered W.written W.faults out.old out.new buffer.old
         (head_text row.now) buffer.new result }

@@ -33,7 +33,7 @@ use std::alloc::AllocGlobal;
 use std::thread::Threads;
 use tile_pool::Gate;
 
-/// How a session is gone on with: by how many workers, from 1 to 64, and whether its reports are short.
+/// How commands are carried out and reported: by how many workers, from 1 to 64, and whether reports are short.
 #[derive(Clone, Copy)]
 struct Way {
     workers: u32,

@@ -38,7 +38,7 @@ pub(crate) struct TrialResult {
     pub(crate) gone: Vec<Row>,
     /// The lines of the rows that would come, each behind `+ `.
     pub(crate) lines: Vec<u8>,
-    /// Whether there are such.
+    /// Whether any row would come.
     pub(crate) comes: bool,
     /// How many rows there would be.
     pub(crate) count: u64,

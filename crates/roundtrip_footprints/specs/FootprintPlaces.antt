@@ -9,7 +9,7 @@ use Rattle.roundtrip_lists.specs.Translated.{Shift, Translated}
 use Rattle.roundtrip_lists.specs.Agreeing.{Agrees}
 use Rattle.roundtrip_lists.specs.Moved.{IsMovedRawPoint}
 
--- turned as it was, at the moved spot
+-- turned as it was, at the moved point
 abbrev pub LocalPlacementMoved : Shift → LocalPlacement → LocalPlacement → Type 0
 LocalPlacementMoved d p q = IsMovedRawPoint (Some d) p.at q.at × (q.angle ≡ p.angle)
 

@@ -1,4 +1,4 @@
--- Figures that stand elsewhere: because their spots were moved, or because what they stand in was.
+-- Figures that stand elsewhere: because their points were moved, or because what they stand in was.
 use Rattle.std.specs.Prelude.{◌≡◌, ◌+ℤ◌, true}
 use Rattle.std.specs.List.{AllZip}
 use Rattle.board_items.specs.Boards.{is_near}
@@ -10,7 +10,7 @@ use Rattle.part_read.specs.Placements.{stood}
 use Rattle.roundtrip_lists.specs.Translated.{Shift}
 use Rattle.roundtrip_lists.specs.Moved.{moved_raw_point}
 
--- if the moved spot is on a board, it is where the second one stands
+-- if the moved point is on a board, the second one stands there
 abbrev pub StandsMoved : Shift → Placement → Placement → RawPoint → RawPoint → Type 0
 StandsMoved d placement new s t = is_near ((stood placement s).x +ℤ d.dx) ≡ true → is_near ((stood placement s).y +ℤ d.dy) ≡ true → stood new t ≡ moved_raw_point d (stood placement s)
 

@@ -17,14 +17,14 @@ ghost use Rattle.roundtrip_lists.specs.Translated.{Shift, Translated};
 ghost use Rattle.roundtrip_lists.specs.Carried.{ItemsOf, IfAccepted, ReadsItems};
 ghost use Rattle.roundtrip_lists.specs.Drawn.{DrawingRead};
 
-/// The drawings of lists equal up to translation are of the same width and fill, and their spots are moved.
+/// The drawings of lists equal up to translation are of the same width and fill, and their points are moved.
 pub fn drawings()
     ensures { (d : Option Shift) (i j : Forest) (s r : Span) → Translated d i j
         → (kind : GraphicKind)
         → Agrees (DrawingRead d) (drawing_of kind (branch s i)) (drawing_of kind (branch r j)) }
 {}
 
-/// Lists equal up to translation lie on the same ground, and the note of a text is the same.
+/// Lists equal up to translation lie on the same layer or have the same role, and the note of a text is the same.
 pub fn texts()
     ensures layer_roles { (d : Option Shift) (copper : LayerSet) (i j : Forest) (s r : Span)
         → Translated d i j → Agrees Same (layer_role_of copper (branch s i))

@@ -51,7 +51,7 @@ pub fn elements()
         (element word (branch t g)) }
 {}
 
-/// Sizes, names, layers and nets of lists equal up to translation are the same, where the first list has them; spots are moved.
+/// Sizes, names, layers and nets of lists equal up to translation are the same, where the first list has them; points are moved.
 pub fn numbers()
     ensures raw_points { (d : Option Shift) (word : List ℕ) → is_place_word word ≡ true
         → (i j : Forest) (s r : Span) → Translated d i j

@@ -130,6 +130,7 @@ fn area_and_line(name: &str, a: &Poly, b: Seg, d: &[i64]) -> Result<bool, Fault>
     })
 }
 
+/// Whether two polygons are apart, or within a distance of each other.
 fn areas(name: &str, a: &Poly, b: &Poly, d: &[i64]) -> Result<bool, Fault> {
     let d = distance(d, 2_000_000_000)?;
     Ok(if name == "poly_apart" {

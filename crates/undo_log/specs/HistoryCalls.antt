@@ -1,5 +1,5 @@
 -- What the calls of a history do. A history that runs has a past, and what is said of it is said of every past that it may be said to have.
--- They are alike but for numbers that come next.
+-- These pasts are equal but for the numbers that come next.
 use Rattle.std.specs.Prelude.{◌≡◌, ◌⊎◌, true, false, List, [], ◌∷◌, Ok, Err}
 use Rattle.edit_script.specs.Commands.{PlainStep}
 use Rattle.drc_session.specs.declared.applied.Applied.{Applied}

@@ -95,7 +95,7 @@ pub fn one_undo()
     one_state();
 }
 
-/// And after what was undone last is done again.
+/// What a history keeps after what was undone last is done again leads through its past.
 pub fn one_redo()
     ensures { (old new : State) (change other : PlainChange) (back on : List PlainChange)
         (past : Past) → AreWays old back (change ∷ on) past → Makes change old new

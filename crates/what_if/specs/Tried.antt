@@ -43,6 +43,6 @@ abbrev pub IsRefusedHere : PlainSession → PlainSession → PlainCommand → Tr
 IsRefusedHere old new command (Refused step inner) = (step ≡ 0) × Answers old.state command (Err inner) × (inner ≢ Stopped) × (inner ≢ NoMemory) × (new ≡ old)
 IsRefusedHere old new command OutOfMemory = Unit {0}
 
--- what running out of memory leaves of the session: it is stopped, or it took the command, and only the rows that come and go are wanting
+-- what running out of memory leaves of the session: it is stopped, or it took the command, and only the rows that come and go are missing
 abbrev pub IsStoppedOrTook : PlainSession → PlainSession → PlainCommand → Type 0
 IsStoppedOrTook old new command = (new.stopped ≡ true) ⊎ ((new.stopped ≡ false) × Answers old.state command (Ok new.state))
