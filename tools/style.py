@@ -5,7 +5,7 @@
 - long: clauses of more than 100 columns; of each crate their number.
 - doc: a comment of a function that says nothing alone, as it begins with "The same" or "As `".
 - module: a name of a module of definitions that stands in several crates.
-- In the documents: links and paths that lead nowhere, and names `CRATE::NAME` that no crate has.
+- In the documents: links and paths that lead nowhere, modules that no crate has, and names `CRATE::NAME` that no crate has.
 - sentence: sentences of more than 40 words in the documents, but for the table of contracts; of each document their number.
 
 What was so when this was written is listed in tools/style.txt. What is not listed there is told with its place, and so is what is
@@ -28,6 +28,8 @@ MOST_WORDS = 40
 # Its sentences are the comments of the calls.
 WRITTEN = 'docs/CONTRACTS.md'
 FOLDERS = r'(?:crates|docs|tools|bench|\.ci|\.github)'
+# A module of a crate, and names behind it that are modules of the same crate.
+FOLLOWED = re.compile(r'`(\w+)/(?:(specs|proofs)/)?[A-Z]\w*`((?:(?:, | and | or |, and )`[A-Z]\w*`)+)')
 
 
 def hidden_and_docs():
@@ -112,6 +114,10 @@ def dead_words():
                 for word in re.findall(r'`([^`\s]+)`', line):
                     if leads_somewhere(word, crates) is False:
                         yield 'path %s %s' % (path, word), 1, '%s:%d: %s is not there' % (path, number, word)
+                for crate, folder, names in FOLLOWED.findall(line):
+                    for name in re.findall(r'`(\w+)`', names) if crate in crates else ():
+                        if not is_there('crates/%s/%s/%s.antt' % (crate, folder or 'specs', name)):
+                            yield 'path %s %s/%s' % (path, crate, name), 1, '%s:%d: %s is no module of %s' % (path, number, name, crate)
 
 
 def blocks(text):
