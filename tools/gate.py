@@ -7,7 +7,8 @@
   tools/gate.py write LOG              writes the table and the sums in docs/GATE.md from such a log
   tools/gate.py tell LOG               prints them
 
-Seconds are those of the processor, user and system. They are read from /proc every quarter of a second, so a process loses at most
+What a check reckons with is the memory that rt ci keeps free for it before it starts: the first part follows from the lines of the crate
+and of those below it, the second from the libraries of the kit that these use. Seconds are those of the processor, user and system. They are read from /proc every quarter of a second, so a process loses at most
 that at its end. Memory is the most that a process held. A task is what the prover was called for: the proof of a crate, of its
 tests, a program's building, or one edit that must fail. Tasks that the kit kept from an earlier run are not in the log, and have a
 dash in the table: what is measured is what ran.
@@ -27,7 +28,14 @@ import sources
 PAGE = 'docs/GATE.md'
 BEGIN, END = '<!-- Written by tools/gate.py: -->', '<!-- Up to here. -->'
 EVERY = 0.25
+# What rt ci reckons with for a check, in GB: for each, for a line of code, of definitions or proofs, and of code below; then a byte of
+# the kit's libraries, and the most for all of these.
+START, CODE, PROOF, BELOW = 1, 1e-3, 2e-4, 8e-5
+KIT_BYTE, KIT_MOST = 5e-9, 2.5
+KIT = '/opt/rattle/rlibs/%s.rlib/toolchain/checked.a'
+ALWAYS = ('core', 'std', 'std_alloc', 'std_collections', 'std_heap', 'std_io', 'io', 'libc', 'os')
 TICK = os.sysconf('SC_CLK_TCK')
+PARTS = ('src', 'specs', 'proofs')
 
 
 def words_of(process):
@@ -129,6 +137,23 @@ def lines_of(crate, folder, ending):
     return found
 
 
+def reckoned():
+    """of each crate, what rt ci reckons with for a check: in GB, by its lines and those below it, and by the kit's libraries"""
+    own, kit, code, found = set(), {}, {}, {}
+    below = {}
+    for crate, stands_on in sources.crates():
+        own.add(crate)
+        below[crate] = set().union(*({other} | below[other] for other in stands_on if other in own))
+        kit[crate] = {other for other in stands_on if other not in own}
+        code[crate] = sum(lines_of(crate, folder, '.rt') for folder in PARTS)
+        proof = sum(lines_of(crate, folder, '.antt') for folder in PARTS)
+        named = set().union(kit[crate], *(kit[other] for other in below[crate])) - set(ALWAYS)
+        loaded = sum(os.path.getsize(KIT % name) for name in named if os.path.isfile(KIT % name))
+        lines = START + CODE * code[crate] + PROOF * proof + BELOW * sum(code[other] for other in below[crate])
+        found[crate] = lines, min(KIT_BYTE * loaded, KIT_MOST)
+    return found
+
+
 def edits_of(crate):
     folder = os.path.join(sources.ROOT, 'crates', crate, 'must-fail')
     return sum(name.endswith('.edit') for name in os.listdir(folder)) if os.path.isdir(folder) else 0
@@ -151,11 +176,15 @@ def table(log):
         seconds[crate, kind] += took
         memory[crate] = max(memory[crate], most)
     cell = lambda crate, *kinds: '%.0f' % sum(seconds[crate, kind] for kind in kinds) if any(seconds[crate, kind] >= 0.5 for kind in kinds) else '-'
-    rows = ['| crate | code | definitions | proofs | edits | proof s | building s | edits s | most MB |', '|---|---|---|---|---|---|---|---|---|']
+    memory_for = reckoned()
+    rows = [
+        '| crate | code | definitions | proofs | edits | proof s | building s | edits s | most MB | reckoned GB |',
+        '|---|---|---|---|---|---|---|---|---|---|']
     for crate, _ in sources.crates():
         rows.append('| ' + ' | '.join(str(it) for it in (
             crate, lines_of(crate, 'src', '.rt'), lines_of(crate, 'specs', '.antt'), lines_of(crate, 'proofs', '.antt'), edits_of(crate),
-            cell(crate, 'proof', 'tests'), cell(crate, 'building'), cell(crate, 'edits'), memory[crate] or '-')) + ' |')
+            cell(crate, 'proof', 'tests'), cell(crate, 'building'), cell(crate, 'edits'), memory[crate] or '-',
+            '%.1f + %.1f' % memory_for[crate])) + ' |')
     of = lambda *kinds: sum(took for (_, kind), took in seconds.items() if kind in kinds) / 60
     chain, names = longest_chain(seconds)
     on = run['machine']
