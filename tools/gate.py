@@ -32,7 +32,7 @@ EVERY = 0.25
 # the kit's libraries, and the most for all of these.
 START, CODE, PROOF, BELOW = 1, 1e-3, 2e-4, 8e-5
 KIT_BYTE, KIT_MOST = 5e-9, 2.5
-KIT = '/opt/rattle/rlibs/%s.rlib/toolchain/checked.a'
+LIBRARY = 'rlibs/%s.rlib/toolchain/checked.a'
 ALWAYS = ('core', 'std', 'std_alloc', 'std_collections', 'std_heap', 'std_io', 'io', 'libc', 'os')
 TICK = os.sysconf('SC_CLK_TCK')
 PARTS = ('src', 'specs', 'proofs')
@@ -140,6 +140,8 @@ def lines_of(crate, folder, ending):
 def reckoned():
     """of each crate, what rt ci reckons with for a check: in GB, by its lines and those below it, and by the kit's libraries"""
     own, kit, code, found = set(), {}, {}, {}
+    # Where the kit stands: its first page lies at its top.
+    top = os.path.dirname(subprocess.run(['rt', 'doc'], capture_output=True, text=True, check=True).stdout.strip())
     below = {}
     for crate, stands_on in sources.crates():
         own.add(crate)
@@ -148,7 +150,8 @@ def reckoned():
         code[crate] = sum(lines_of(crate, folder, '.rt') for folder in PARTS)
         proof = sum(lines_of(crate, folder, '.antt') for folder in PARTS)
         named = set().union(kit[crate], *(kit[other] for other in below[crate])) - set(ALWAYS)
-        loaded = sum(os.path.getsize(KIT % name) for name in named if os.path.isfile(KIT % name))
+        files = [os.path.join(top, LIBRARY % name) for name in named]
+        loaded = sum(os.path.getsize(file) for file in files if os.path.isfile(file))
         lines = START + CODE * code[crate] + PROOF * proof + BELOW * sum(code[other] for other in below[crate])
         found[crate] = lines, min(KIT_BYTE * loaded, KIT_MOST)
     return found
