@@ -4,7 +4,7 @@ use Rattle.std.specs.List.{All, Contains, fold}
 use Rattle.std.specs.List.Sorted.{IsStrictlyIncreasing}
 use Rattle.std.proofs.lemmas.Bool.{ne_eqb}
 use Rattle.std.proofs.lemmas.List.Elements.{All-nil, All-cons, All-head, All-tail, All-weaker, All-contains, All-contains_itself, Contains-append_cases, filter-append}
-use Rattle.board_items.specs.declared.item.Item.{Item}
+use Rattle.one_item.specs.declared.item.Item.{Item}
 use Rattle.board_items.specs.Back.{entries_of}
 use Rattle.board_items.specs.Boards.{PlainBoard, IsSound, UnitsBelow, item_at, with_item}
 use Rattle.board_items.specs.Units.{without_unit}

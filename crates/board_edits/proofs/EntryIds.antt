@@ -4,9 +4,9 @@ use Rattle.std.specs.List.{All, AllPairs, Contains}
 use Rattle.std.specs.List.Sorted.{IsStrictlyIncreasing}
 use Rattle.std.proofs.lemmas.List.Elements.{All-nil, All-cons, All-weaker, All-map, All-contains}
 use Rattle.std.proofs.lemmas.List.Kept.{AllPairs-cons}
-use Rattle.board_items.specs.declared.item.Item.{Item}
+use Rattle.one_item.specs.declared.item.Item.{Item}
 use Rattle.board_items.specs.Boards.{PlainBoard, Rise, item_at}
-use Rattle.board_items.specs.ItemParts.{parts_of}
+use Rattle.one_item.specs.ItemParts.{parts_of}
 use Rattle.board_items.proofs.Rising.{rise_ends, passed_over}
 use Rattle.board_laws.specs.Edits.{WasOrIs}
 use Rattle.board_laws.proofs.Rest.{Entry}

@@ -2,9 +2,9 @@
 use Rattle.std.proofs.Common.{◌≡◌, ◌⊎◌, inl, inr, ◌∙◌, ap, sym, subst, refl, ℕ, ℤ, List, Result, Ok, Err, MatchResult}
 use Rattle.board_errors.specs.declared.errors.BoardError.{BoardError}
 use Rattle.board_errors.specs.declared.errors.BoardError.TheVariants.{OutOfMemory as NoMemory}
-use Rattle.board_items.specs.declared.item.Item.{Item}
+use Rattle.one_item.specs.declared.item.Item.{Item}
 use Rattle.board_items.specs.Boards.{PlainBoard}
-use Rattle.board_items.specs.ItemMoves.{IsMoved}
+use Rattle.board_items.specs.UnitMoves.{IsMoved}
 use Rattle.pcb_read.specs.ItemText.{SaysItem}
 use Rattle.edit_script.specs.Commands.{PlainCommand, add, delete, move, rules, again}
 use Rattle.board_edits.specs.declared.operation.Operation.{Operation}

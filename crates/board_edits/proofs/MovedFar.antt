@@ -3,8 +3,8 @@ use Rattle.std.proofs.Common.{◌≡◌, refl, ℤ, Bool, true, false, ◌&&◌,
 use Rattle.std.specs.Int.Signed.{le_z}
 use Rattle.std.proofs.lemmas.Bool.{and_parts}
 use Rattle.std.proofs.lemmas.Int.{ints}
-use Rattle.board_items.specs.declared.item.Item.{Item}
-use Rattle.board_items.specs.Boards.{is_near, is_on_board}
+use Rattle.one_item.specs.declared.item.Item.{Item}
+use Rattle.one_item.specs.Positions.{is_near, is_on_board}
 
 near_range : (z : ℤ) → is_near z ≡ true → unsigned_abs z ≤ 500000000
 near_range z h = by (le_z (neg_ℤ (pos 500000000)) z) (le_z z (pos 500000000)) refl refl h

@@ -9,11 +9,13 @@ use Rattle.std.proofs.lemmas.Bool.{and_parts}
 use Rattle.std.proofs.lemmas.Bool.Decides.{Decides-int_eq}
 use Rattle.std.proofs.lemmas.List.Elements.{All-contains}
 use Rattle.geo_seg.specs.Shifts.{core_stays}
-use Rattle.board_items.specs.declared.parts.Part.{Part}
-use Rattle.board_items.specs.declared.item.Item.{Item}
-use Rattle.board_items.specs.Boards.{PlainBoard, IsSound, AllAdmitted, item_at, is_near, is_on_board, name_of, has_layers_of}
-use Rattle.board_items.specs.ItemParts.{parts_of, FirstHasPoints}
-use Rattle.board_items.specs.ItemMoves.{moves, item_stays, unit_stays, IsShiftedItem, IsMovedEntry, IsMoved, HaveFirstPoints}
+use Rattle.one_item.specs.declared.parts.Part.{Part}
+use Rattle.one_item.specs.declared.item.Item.{Item}
+use Rattle.one_item.specs.Positions.{is_near, is_on_board}
+use Rattle.board_items.specs.Boards.{PlainBoard, IsSound, AllAdmitted, item_at, name_of, has_layers_of}
+use Rattle.one_item.specs.ItemParts.{parts_of, FirstHasPoints}
+use Rattle.one_item.specs.ItemMoves.{item_stays, IsShiftedItem}
+use Rattle.board_items.specs.UnitMoves.{moves, unit_stays, IsMovedEntry, IsMoved, HaveFirstPoints}
 use Rattle.board_laws.specs.Edits.{IsEdit, WasOrIs}
 use Rattle.board_laws.proofs.Rest.{Entry, rises, found_at, contains_filter, source, passed as passed_test}
 use Rattle.board_edits.specs.declared.making.Made.{Made}

@@ -1,9 +1,10 @@
 -- The items of a unit that move.
 use Rattle.std.proofs.Common.{◌≡◌, ◌∙◌, ap, refl, ℕ, Bool, true, false, cond, not, ◌&&◌, nat_eq, List, [], ◌∷◌, filter, Vec, Result, Ok, Err, IfOk}
 use Rattle.std.specs.declared.alloc.Global.{Global}
-use Rattle.board_items.specs.declared.item.Item.{Item}
+use Rattle.one_item.specs.declared.item.Item.{Item}
 use Rattle.board_items.specs.Back.{entries_of}
-use Rattle.board_items.specs.ItemMoves.{is_note, moves}
+use Rattle.one_item.specs.ItemKinds.{is_note}
+use Rattle.board_items.specs.UnitMoves.{moves}
 use Rattle.board_edits.specs.Making.{ids_of}
 
 abbrev Entry : Type 0

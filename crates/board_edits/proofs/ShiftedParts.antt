@@ -8,13 +8,15 @@ use Rattle.geo_seg.specs.declared.points.Point.{Point}
 use Rattle.geo_seg.specs.declared.shapes.Core.{Core}
 use Rattle.geo_seg.specs.declared.shapes.Core.TheVariants.{Line, Area as Polygon}
 use Rattle.geo_seg.specs.Shifts.{IsShiftedPoint, IsShiftedCore, is_coordinate, point_stays, core_stays}
-use Rattle.board_items.specs.declared.parts.Part.{Part}
-use Rattle.board_items.specs.declared.item.Item.{Item}
-use Rattle.board_items.specs.Boards.{PlainBoard, AllAdmitted, is_near, is_on_board, name_of, has_layers_of}
-use Rattle.board_items.specs.ItemParts.{parts_of}
-use Rattle.board_items.specs.ItemMoves.{AreShifted, IsShiftedItem, moves, item_stays, unit_stays, IsMovedEntry}
+use Rattle.one_item.specs.declared.parts.Part.{Part}
+use Rattle.one_item.specs.declared.item.Item.{Item}
+use Rattle.one_item.specs.Positions.{is_near, is_on_board}
+use Rattle.board_items.specs.Boards.{PlainBoard, AllAdmitted, name_of, has_layers_of}
+use Rattle.one_item.specs.ItemParts.{parts_of}
+use Rattle.one_item.specs.ItemMoves.{AreShifted, IsShiftedItem, item_stays}
+use Rattle.board_items.specs.UnitMoves.{moves, unit_stays, IsMovedEntry}
 use Rattle.board_laws.proofs.Rest.{Entry}
-use Rattle.board_items.proofs.MovedParts.{parts_zip}
+use Rattle.one_item.proofs.MovedParts.{parts_zip}
 
 -- ---- where all points are in range, what was moved there stays
 in_range : (z : ℤ) → unsigned_abs z ≤ 1000000000 → is_coordinate z ≡ true

@@ -4,7 +4,7 @@ use Rattle.std.specs.List.{All, AllPairs, Contains}
 use Rattle.std.specs.List.Sorted.{IsStrictlyIncreasing}
 use Rattle.std.proofs.lemmas.Bool.{eqb-true}
 use Rattle.std.proofs.lemmas.List.Elements.{All-nil, All-cons, All-weaker, All-contains_itself, All-filter, filter_passes}
-use Rattle.board_items.specs.declared.item.Item.{Item}
+use Rattle.one_item.specs.declared.item.Item.{Item}
 use Rattle.board_items.specs.Back.{AreMerged, FitsBack, entries_of}
 use Rattle.board_items.specs.Boards.{PlainBoard, IsSound, UnitsBelow, AllAdmitted, item_at, is_admitted}
 use Rattle.board_items.specs.Units.{without_unit}

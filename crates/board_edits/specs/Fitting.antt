@@ -2,7 +2,7 @@
 use Rattle.std.specs.Prelude.{◌≡◌, true, [], ◌∷◌, map, ⊤}
 use Rattle.board_items.specs.Back.{kept_entry, FitsBack}
 use Rattle.board_items.specs.Boards.{PlainBoard}
-use Rattle.board_items.specs.ItemMoves.{unit_stays}
+use Rattle.board_items.specs.UnitMoves.{unit_stays}
 use Rattle.part_read.specs.Ready.{AreReady}
 use Rattle.board_edits.specs.declared.operation.Operation.{Operation}
 use Rattle.board_edits.specs.declared.operation.Operation.TheVariants.{Nothing, Append, PutBack, TakeOut, Shift}

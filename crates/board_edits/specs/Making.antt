@@ -1,6 +1,6 @@
 -- What is known of an operation while it is done.
 use Rattle.std.specs.Prelude.{◌≡◌, ℕ, ℤ, neg_ℤ, List, [], ◌∷◌, map}
-use Rattle.board_items.specs.declared.item.Item.{Item}
+use Rattle.one_item.specs.declared.item.Item.{Item}
 use Rattle.board_items.specs.Boards.{PlainBoard}
 use Rattle.board_edits.specs.declared.making.Made.{Made}
 use Rattle.board_edits.specs.Operations.{PlainOperation, nothing, take_out, shift, After}

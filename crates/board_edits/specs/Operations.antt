@@ -4,10 +4,10 @@ use Rattle.board_errors.specs.declared.errors.BoardError.{BoardError}
 use Rattle.board_errors.specs.declared.errors.BoardError.TheVariants.{OutOfBoard}
 use Rattle.board_items.specs.declared.found.Found.{Found}
 use Rattle.board_items.specs.declared.found.Found.TheVariants.{None as NoUnit, Shared, Inside, Unit as OneUnit}
-use Rattle.board_items.specs.declared.item.Item.{Item}
+use Rattle.one_item.specs.declared.item.Item.{Item}
 use Rattle.board_items.specs.Back.{IsPutBack}
 use Rattle.board_items.specs.Boards.{PlainBoard}
-use Rattle.board_items.specs.ItemMoves.{unit_stays, IsMoved}
+use Rattle.board_items.specs.UnitMoves.{unit_stays, IsMoved}
 use Rattle.board_items.specs.Units.{found_of, without_unit}
 use Rattle.pcb_read.specs.BoardOf.{with_items}
 use Rattle.pcb_read.specs.ItemText.{SaysItem}

@@ -2,11 +2,11 @@
 use Rattle.std.specs.Prelude.{◌≡◌, ◌≢◌, ◌&&◌, ℕ, pos, List, [], map, filter, All, Contains, None, Some, if◌then◌else◌}
 use Rattle.std.specs.Ordering.{int_eq}
 use Rattle.std.specs.List.Sorted.{IsStrictlyIncreasing}
-use Rattle.board_items.specs.declared.item.Item.{Item}
+use Rattle.one_item.specs.declared.item.Item.{Item}
 use Rattle.board_items.specs.Back.{entries_of}
 use Rattle.board_items.specs.Boards.{PlainBoard, item_at}
-use Rattle.board_items.specs.ItemMoves.{moves}
-use Rattle.board_items.specs.ItemParts.{parts_of}
+use Rattle.board_items.specs.UnitMoves.{moves}
+use Rattle.one_item.specs.ItemParts.{parts_of}
 use Rattle.board_laws.specs.Edits.{IsEdit, WasOrIs}
 use Rattle.board_edits.specs.Operations.{PlainOperation, take_out, shift}
 

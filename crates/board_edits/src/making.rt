@@ -3,7 +3,7 @@
 ghost use Rattle.std.specs.Prelude.{◌≡◌, ◌≢◌, ◌≤◌, true, [], map, IfOk, OnOk, unsigned_abs};
 ghost use Rattle.board_items.specs.Back.{kept_entry, FitsBack};
 ghost use Rattle.board_items.specs.Boards.{IsSound};
-ghost use Rattle.board_items.specs.ItemMoves.{unit_stays};
+ghost use Rattle.board_items.specs.UnitMoves.{unit_stays};
 ghost use Rattle.part_read.specs.Ready.{AreReady};
 ghost use Rattle.board_edits.specs.Operations.{After, nothing, append, put_back, take_out, shift};
 ghost use Rattle.board_edits.specs.Fitting.{plain_operation, OperationFits, IsInverseOperation, GivesNothing, AddsNone};

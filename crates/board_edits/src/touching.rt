@@ -2,7 +2,8 @@
 
 ghost use Rattle.std.specs.Prelude.{◌≡◌, not, filter, IfOk};
 ghost use Rattle.board_items.specs.Back.{entries_of};
-ghost use Rattle.board_items.specs.ItemMoves.{is_note, moves};
+ghost use Rattle.one_item.specs.ItemKinds.{is_note};
+ghost use Rattle.board_items.specs.UnitMoves.{moves};
 ghost use Rattle.board_items.specs.BoardIterators.{unit_left};
 ghost use Rattle.board_edits.specs.Operations.{shift};
 ghost use Rattle.board_edits.specs.Fitting.{plain_operation};

@@ -3,8 +3,8 @@ use Rattle.std.proofs.Common.{◌≡◌, ◌≢◌, refl, ap, ◌∙◌, ℤ, �
 use Rattle.std.proofs.lemmas.Int.{ints}
 use Rattle.geo_seg.specs.declared.boxes.Bounds.{Bounds}
 use Rattle.geo_seg.specs.Boxes.{IsPartOf}
-use Rattle.board_items.specs.declared.parts.Part.{Part}
-use Rattle.board_items.specs.Extents.{AreBoundsOf}
+use Rattle.one_item.specs.declared.parts.Part.{Part}
+use Rattle.one_item.specs.Extents.{AreBoundsOf}
 
 both : (x y : ℤ) → x ≤ℤ y → y ≤ℤ x → x ≡ y
 both x y f g = omega (arith, ints)

@@ -5,7 +5,7 @@ use Rattle.std.proofs.lemmas.List.Elements.{All-weaker, All-filter, filter_passe
 use Rattle.std.proofs.lemmas.List.Kept.{IsStrictlyIncreasing-filter}
 use Rattle.geo_seg.specs.declared.boxes.Bounds.{Bounds}
 use Rattle.board_items.specs.Boards.{PlainBoard}
-use Rattle.board_items.specs.ItemParts.{parts_of}
+use Rattle.one_item.specs.ItemParts.{parts_of}
 use Rattle.box_index.specs.declared.entry.Entry.{Entry}
 use Rattle.box_index.specs.Tiles.{PlainIndex, is_in, is_held, held_of, dirty_of, numbers_below, tile_count}
 use Rattle.box_index.proofs.Buckets.{contains_filter}

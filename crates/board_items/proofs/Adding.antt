@@ -1,9 +1,9 @@
 -- A board after an item was added in a slot of its own.
 use Rattle.std.proofs.Common.{◌≡◌, ℕ, ◌+◌, ◌<◌, max, true, List, [], ◌∷◌, ◌++◌, length, get_or, set, Option, Some, Vec, sym, ◌∙◌, ap, subst, arith, length-append}
 use Rattle.std.specs.declared.alloc.Global.{Global}
-use Rattle.board_items.specs.declared.item.Item.{Item}
+use Rattle.one_item.specs.declared.item.Item.{Item}
 use Rattle.board_items.specs.Boards.{PlainBoard, with_item, is_admitted, marks_of}
-use Rattle.board_items.specs.ItemMoves.{is_note}
+use Rattle.one_item.specs.ItemKinds.{is_note}
 use Rattle.board_items.specs.ItemNotes.{notes_of}
 use Rattle.board_items.specs.BoardCaches.{IsNetAt, IsKept}
 use Rattle.board_items.specs.ItemRefusals.{capacity_of}

@@ -7,11 +7,12 @@ use Rattle.std.specs.List.{list_all}
 use Rattle.std.specs.Map.{lookup}
 use Rattle.board_errors.specs.declared.errors.ItemError.TheVariants.{OutOfBoard, UnknownNet, UnknownLayer, TooMany}
 use Rattle.copper_layers.specs.declared.set.LayerSet.{LayerSet}
-use Rattle.board_items.specs.declared.parts.Part.{Part}
-use Rattle.board_items.specs.declared.item.Item.{Item}
+use Rattle.one_item.specs.declared.parts.Part.{Part}
+use Rattle.one_item.specs.declared.item.Item.{Item}
 use Rattle.copper_layers.specs.Layers.{is_within}
-use Rattle.board_items.specs.ItemParts.{parts_of}
-use Rattle.board_items.specs.Boards.{PlainBoard, name_of, item_at, is_on_board, has_layers_of, is_admitted, AllAdmitted}
+use Rattle.one_item.specs.ItemParts.{parts_of}
+use Rattle.one_item.specs.Positions.{is_on_board}
+use Rattle.board_items.specs.Boards.{PlainBoard, name_of, item_at, has_layers_of, is_admitted, AllAdmitted}
 use Rattle.board_items.specs.ItemRefusals.{refusal_of}
 
 -- ---- lists of items

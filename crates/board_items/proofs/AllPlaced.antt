@@ -5,7 +5,7 @@ use Rattle.std.proofs.lemmas.Bool.{eqb-true, ne_eqb}
 use Rattle.std.proofs.lemmas.List.Elements.{All-nil, All-cons, All-head, All-tail, All-weaker, All-contains, All-contains_itself}
 use Rattle.std.proofs.lemmas.List.Kept.{AllPairs-cons}
 use Rattle.board_items.specs.declared.back.Kept.{Kept}
-use Rattle.board_items.specs.declared.item.Item.{Item}
+use Rattle.one_item.specs.declared.item.Item.{Item}
 use Rattle.board_items.specs.Boards.{PlainBoard, Rise, item_at, is_admitted}
 use Rattle.board_items.specs.Units.{without_unit}
 use Rattle.board_items.specs.Back.{placed, all_placed, kept_entry, entries_of, AreMerged, IsPutBack, FitsBack, FitsOne}

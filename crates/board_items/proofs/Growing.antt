@@ -1,6 +1,6 @@
 -- What a board is after a net or an item was added, or its layers were set.
 use Rattle.std.proofs.Common.{◌≡◌, ℕ, ◌+◌, ◌-◌, ◌<◌, min, max, true, false, cond, List, [], ◌∷◌, ◌++◌, length, Option, None, Some, is_some, nat_eq, refl, sym, ◌∙◌, ap, subst, arith, length-append}
-use Rattle.board_items.specs.declared.item.Item.{Item}
+use Rattle.one_item.specs.declared.item.Item.{Item}
 use Rattle.board_items.specs.Boards.{PlainBoard, IsSound, Rise, UnitsBelow, AllAdmitted, name_of, with_net, is_admitted, marks_of}
 use Rattle.copper_layers.specs.declared.set.LayerSet.{LayerSet}
 use Rattle.board_items.specs.ItemRefusals.{capacity_of}

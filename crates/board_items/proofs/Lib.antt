@@ -1,9 +1,7 @@
-mod Around
 pub mod Rising
 mod Admitted
 mod Nets
 mod Growing
-pub mod MeasureLemmas
 mod NetIds
 mod Removing
 mod Walking
@@ -12,11 +10,10 @@ mod Adding
 mod UnitRows
 mod TagRows
 mod Named
-pub mod MovedParts
+mod MovedItems
 mod Moving
 mod OneMove
 mod Resting
-mod MovedApart
 mod MovedBack
 mod NoteWalks
 mod Copies

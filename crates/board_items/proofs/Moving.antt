@@ -1,66 +1,30 @@
 -- A board after the items of a unit were moved.
-use Rattle.std.proofs.Common.{◌≡◌, ◌⊎◌, ℕ, ◌+◌, ◌<◌, ◌≤◌, ℤ, pos, neg_ℤ, ◌+ℤ◌, ◌*ℤ◌, unsigned_abs, FitsSigned, Bool, true, false, cond, ◌&&◌, List, [], ◌∷◌, ◌++◌, length, map, filter, All, Vec, nat_eq, Option, None, Some, is_some, inl, inr, refl, sym, ◌∙◌, ap, subst, arith}
-use Rattle.std.proofs.lemmas.Int.{ints}
+use Rattle.std.proofs.Common.{◌≡◌, ◌⊎◌, ℕ, ◌+◌, ◌<◌, ◌≤◌, ℤ, pos, ◌+ℤ◌, ◌*ℤ◌, FitsSigned, Bool, true, false, cond, ◌&&◌, List, [], ◌∷◌, length, map, filter, All, Vec, nat_eq, Option, None, Some, is_some, inl, inr, refl, sym, ◌∙◌, ap, subst, arith}
 use Rattle.std.proofs.lemmas.Bool.{and_from, and_parts}
-use Rattle.std.specs.Int.Signed.{le_z}
 use Rattle.int_algebra.proofs.Scalars.{passed, clean}
 use mir.Syntax.{w64}
 use Rattle.std.proofs.lemmas.List.Elements.{All-nil, All-cons}
 use Rattle.std.specs.Prelude.{MatchBool}
 use Rattle.std.specs.List.{AllZip, list_all}
 use Rattle.geo_seg.specs.Shifts.{core_stays}
-use Rattle.copper_layers.specs.declared.set.LayerSet.{LayerSet}
-use Rattle.board_items.specs.declared.parts.Part.{Part}
-use Rattle.board_items.specs.declared.item.What.{What}
-use Rattle.board_items.specs.declared.item.What.TheVariants.{Track, Via, Pad, Graphic, Fill, Edge, Area, Body, Note}
-use Rattle.board_items.specs.declared.item.Item.{Item}
-use Rattle.copper_layers.specs.Layers.{is_within}
-use Rattle.board_items.specs.ItemParts.{parts_of}
-use Rattle.board_items.specs.Boards.{PlainBoard, IsSound, Rise, UnitsBelow, AllAdmitted, name_of, is_near, is_on_board, has_layers_of, is_admitted, is_mark, ids_where}
+use Rattle.one_item.specs.declared.item.Item.{Item}
+use Rattle.one_item.specs.ItemParts.{parts_of}
+use Rattle.one_item.specs.Positions.{is_near, is_on_board}
+use Rattle.one_item.specs.ItemKinds.{is_mark, is_note}
+use Rattle.board_items.specs.Boards.{PlainBoard, IsSound, Rise, UnitsBelow, AllAdmitted, name_of, has_layers_of, is_admitted, ids_where}
 use Rattle.std.proofs.lemmas.List.{with_items_is}
 use Rattle.std.specs.Vec.{with_items}
 use Rattle.std.specs.declared.alloc.Global.{Global}
-use Rattle.board_items.specs.Measures.{HasLengths}
 use Rattle.board_items.specs.ItemNotes.{notes_of}
 use Rattle.board_items.specs.BoardCaches.{IsKept}
-use Rattle.board_items.proofs.MeasureLemmas.{no_lengths}
 use Rattle.board_items.proofs.NetIds.{ids_unchanged}
 use Rattle.board_items.specs.ItemSlots.{present, is_slot_on_board, slot_stays, IsMovedSlot}
 use Rattle.board_items.proofs.SlotLists.{stays_slots, moved_slots, same_row}
 use Rattle.board_items.proofs.Admitted.{all_kept}
-use Rattle.board_items.specs.ItemMoves.{AreShifted, KindIsShifted, IsShiftedItem, IsMovedEntry, IsMoved, moves, item_stays, unit_stays, is_note}
-use Rattle.board_items.proofs.MovedParts.{parts_zip}
-
--- ---- parts
-layers_same : (dx dy : ℤ) (copper : LayerSet) (ps qs : List Part) → AreShifted dx dy ps qs → list_all (λ part. is_within part.layers copper) qs ≡ list_all (λ part. is_within part.layers copper) ps
-layers_same dx dy copper [] [] h = refl
-layers_same dx dy copper [] (q ∷ qs) h = absurd h
-layers_same dx dy copper (p ∷ ps) [] h = absurd h
-layers_same dx dy copper (p ∷ ps) (q ∷ qs) h =
-    ap (λ b. b && list_all (λ part. is_within part.layers copper) qs) (ap (λ (s : LayerSet). is_within s copper) h.0.layers)
-    ∙ ap (λ b. is_within p.layers copper && b) (layers_same dx dy copper ps qs h.1)
-
-mark_same : (dx dy : ℤ) (a b : What) → KindIsShifted dx dy a b → is_mark b ≡ is_mark a
-mark_same dx dy (Track w) b h = ap is_mark h
-mark_same dx dy (Via s d m l) b h = ap is_mark h
-mark_same dx dy (Pad n r) b h = ap is_mark h
-mark_same dx dy Graphic b h = ap is_mark h
-mark_same dx dy Fill b h = ap is_mark h
-mark_same dx dy (Edge lines) b h = ap is_mark h.1
-mark_same dx dy (Area t s p) b h = ap is_mark h.1
-mark_same dx dy (Body r f k o) b h = ap is_mark h.2
-mark_same dx dy (Note a l) b h = ap is_mark h
-
-note_same : (dx dy : ℤ) (a b : What) → KindIsShifted dx dy a b → is_note b ≡ is_note a
-note_same dx dy (Track w) b h = ap is_note h
-note_same dx dy (Via s d m l) b h = ap is_note h
-note_same dx dy (Pad n r) b h = ap is_note h
-note_same dx dy Graphic b h = ap is_note h
-note_same dx dy Fill b h = ap is_note h
-note_same dx dy (Edge lines) b h = ap is_note h.1
-note_same dx dy (Area t s p) b h = ap is_note h.1
-note_same dx dy (Body r f k o) b h = ap is_note h.2
-note_same dx dy (Note a l) b h = ap is_note h
+use Rattle.one_item.specs.ItemMoves.{IsShiftedItem, item_stays}
+use Rattle.board_items.specs.UnitMoves.{IsMovedEntry, IsMoved, moves, unit_stays}
+use Rattle.one_item.proofs.MovedParts.{parts_zip}
+use Rattle.one_item.proofs.ShiftedKinds.{layers_same, mark_same, note_same}
 
 module _ (unit : ℕ) (dx dy : ℤ) where
   -- ---- one entry
@@ -185,81 +149,6 @@ on_board b k (None ∷ ss) h = All-cons (λ slot. is_slot_on_board slot ≡ true
 on_board b k (Some x ∷ ss) h =
     let own = (and_parts (is_on_board x) (is_some (name_of b x.net)) (and_parts (is_on_board x && is_some (name_of b x.net)) (has_layers_of b x) h.0).0).0 in
     All-cons (λ slot. is_slot_on_board slot ≡ true) (Some x) ss own (on_board b (k + 1) ss h.1)
-
--- ---- numbers
-near_range : (z : ℤ) → is_near z ≡ true → unsigned_abs z ≤ 500000000
-near_range z h = by (le_z (neg_ℤ (pos 500000000)) z) (le_z z (pos 500000000)) refl refl h
-  where
-    by : (a b : Bool) → le_z (neg_ℤ (pos 500000000)) z ≡ a → le_z z (pos 500000000) ≡ b → a && b ≡ true → unsigned_abs z ≤ 500000000
-    by true true k l e = omega (arith, ints, k, l)
-    by true false k l e = absurd cc
-    by false b k l e = absurd cc
-
--- between two places on the board
-pub step_range : (z d : ℤ) → is_near z ≡ true → is_near (z +ℤ d) ≡ true → unsigned_abs d ≤ 1000000000
-step_range z d h k = small (near_range z h) (near_range (z +ℤ d) k)
-  where
-    small : unsigned_abs z ≤ 500000000 → unsigned_abs (z +ℤ d) ≤ 500000000 → unsigned_abs d ≤ 1000000000
-    small l m = omega (arith, ints)
-
-pub sum_near : (z d : ℤ) → is_near z ≡ true → is_near (z +ℤ d) ≡ true → passed (passed z +ℤ passed d) ≡ z +ℤ d
-sum_near z d h k = small (near_range z h) (near_range (z +ℤ d) k)
-  where
-    small : unsigned_abs z ≤ 500000000 → unsigned_abs (z +ℤ d) ≤ 500000000 → passed (passed z +ℤ passed d) ≡ z +ℤ d
-    small l m = omega (arith, ints)
-
-pub item_small : (dx dy : ℤ) (item : Item) → is_on_board item ≡ true → is_near (item.x +ℤ dx) && is_near (item.y +ℤ dy) ≡ true → (unsigned_abs dx ≤ 1000000000) × (unsigned_abs dy ≤ 1000000000)
-item_small dx dy item h k =
-    let here = and_parts (is_near item.x) (is_near item.y) h in
-    let there = and_parts (is_near (item.x +ℤ dx)) (is_near (item.y +ℤ dy)) k in
-    (step_range item.x dx here.0 there.0, step_range item.y dy here.1 there.1)
-
--- ---- an item that stays
-module _ (dx dy : ℤ) (item : Item) (here : is_on_board item ≡ true) (stays : item_stays dx dy item ≡ true) where
-  places : (is_near item.x ≡ true) × (is_near item.y ≡ true)
-  places = and_parts (is_near item.x) (is_near item.y) here
-
-  halves : (is_near (item.x +ℤ dx) && is_near (item.y +ℤ dy) ≡ true) × (list_all (λ part. core_stays (pos 2 *ℤ dx) (pos 2 *ℤ dy) part.shape.core) (parts_of item) ≡ true)
-  halves = and_parts (is_near (item.x +ℤ dx) && is_near (item.y +ℤ dy)) (list_all (λ part. core_stays (pos 2 *ℤ dx) (pos 2 *ℤ dy) part.shape.core) (parts_of item)) stays
-
-  ends : (is_near (item.x +ℤ dx) ≡ true) × (is_near (item.y +ℤ dy) ≡ true)
-  ends = and_parts (is_near (item.x +ℤ dx)) (is_near (item.y +ℤ dy)) halves.0
-
-  pub small_dx : unsigned_abs dx ≤ 1000000000
-  small_dx = step_range item.x dx places.0 ends.0
-
-  pub small_dy : unsigned_abs dy ≤ 1000000000
-  small_dy = step_range item.y dy places.1 ends.1
-
-  pub new_x : passed (passed item.x +ℤ passed dx) ≡ item.x +ℤ dx
-  new_x = sum_near item.x dx places.0 ends.0
-
-  pub new_y : passed (passed item.y +ℤ passed dy) ≡ item.y +ℤ dy
-  new_y = sum_near item.y dy places.1 ends.1
-
-  pub all_parts : list_all (λ part. core_stays (pos 2 *ℤ dx) (pos 2 *ℤ dy) part.shape.core) (parts_of item) ≡ true
-  all_parts = halves.1
-
-pub list_all_prefix : {X : Type 0} (test : X → Bool) (xs ys : List X) → list_all test (xs ++ ys) ≡ true → list_all test xs ≡ true
-list_all_prefix test [] ys h = refl
-list_all_prefix test (x ∷ xs) ys h =
-    let both = and_parts (test x) (list_all test (xs ++ ys)) h in and_from _ _ both.0 (list_all_prefix test xs ys both.1)
-
-pub list_all_back : {X : Type 0} (test : X → Bool) (xs ys : List X) → list_all test (xs ++ ys) ≡ true → list_all test ys ≡ true
-list_all_back test [] ys h = h
-list_all_back test (x ∷ xs) ys h = list_all_back test xs ys (and_parts (test x) (list_all test (xs ++ ys)) h).1
-
--- ---- lengths do not change
-pub lengths_moved : (dx dy : ℤ) (a b : What) → KindIsShifted dx dy a b → HasLengths a → HasLengths b
-lengths_moved dx dy (Track w) b h l = subst HasLengths (sym h) l
-lengths_moved dx dy (Via s d m k) b h l = subst HasLengths (sym h) l
-lengths_moved dx dy (Pad n r) b h l = subst HasLengths (sym h) l
-lengths_moved dx dy Graphic b h l = subst HasLengths (sym h) l
-lengths_moved dx dy Fill b h l = subst HasLengths (sym h) l
-lengths_moved dx dy (Edge lines) b h l = subst HasLengths (sym h.1) (no_lengths (Edge h.0) (λ w e. absurd cc) (λ s d m k e. absurd cc))
-lengths_moved dx dy (Area t s p) b h l = subst HasLengths (sym h.1) (no_lengths (Area t s h.0) (λ w e. absurd cc) (λ s d m k e. absurd cc))
-lengths_moved dx dy (Body r f k o) b h l = subst HasLengths (sym h.2) (no_lengths (Body r h.0 h.1 o) (λ w e. absurd cc) (λ s d m k e. absurd cc))
-lengths_moved dx dy (Note a k) b h l = subst HasLengths (sym h) l
 
 -- ---- by distances that were passed on
 pub stays_passed : (unit : ℕ) (dx dy : ℤ) (xs ys : List (Option Item)) → FitsSigned w64 dx → FitsSigned w64 dy → xs ≡ ys → unit_stays unit dx dy (present 0 ys) ≡ true

@@ -1,10 +1,11 @@
 -- Names of items: what is asked of the items of a unit, or of a name, may be asked of them alone.
 use Rattle.std.proofs.Common.{◌≡◌, ◌∙◌, ap, sym, refl, ℕ, Bool, true, false, cond, ◌&&◌, ◌||◌, not, nat_eq, bytes_eq, List, [], ◌∷◌, length, filter, None as Nothing, Some, eq-eqb}
 use Rattle.std.specs.Prelude.{◌==◌}
-use Rattle.board_items.specs.declared.item.Item.{Item}
+use Rattle.one_item.specs.declared.item.Item.{Item}
 use Rattle.board_items.specs.declared.found.Found.TheVariants.{None, Shared, Inside, Unit as One}
 use Rattle.board_items.specs.Tags.{all_named}
-use Rattle.board_items.specs.Units.{is_body, first_named, is_shared, has_other_unit, has_body_named_otherwise, is_footprint_named_otherwise, found_by, found_of}
+use Rattle.one_item.specs.ItemKinds.{is_body}
+use Rattle.board_items.specs.Units.{first_named, is_shared, has_other_unit, has_body_named_otherwise, is_footprint_named_otherwise, found_by, found_of}
 use Rattle.board_items.proofs.Walking.{named_here, not_named}
 
 module _ (unit : ℕ) (name : List ℕ) where

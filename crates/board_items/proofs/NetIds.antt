@@ -7,8 +7,9 @@ use Rattle.std.proofs.lemmas.List.Quantifiers.{position-Some}
 use Rattle.std.specs.List.{position}
 use Rattle.std.specs.Map.{lookup}
 use Rattle.std.specs.declared.alloc.Global.{Global}
-use Rattle.board_items.specs.declared.item.Item.{Item}
-use Rattle.board_items.specs.Boards.{PlainBoard, IsSound, marks_of, AreDistinct, AllAdmitted, name_of, is_on_board, has_layers_of, ids_of_net}
+use Rattle.one_item.specs.declared.item.Item.{Item}
+use Rattle.one_item.specs.Positions.{is_on_board}
+use Rattle.board_items.specs.Boards.{PlainBoard, IsSound, marks_of, AreDistinct, AllAdmitted, name_of, has_layers_of, ids_of_net}
 use Rattle.board_items.specs.BoardCaches.{IsNetAt, AreIdsOf, IsKept}
 use Rattle.board_items.proofs.Rising.{ids_where-append}
 use Rattle.board_items.proofs.Nets.{absent_parts}

@@ -2,8 +2,8 @@
 use Rattle.std.proofs.Common.{◌≡◌, ◌≢◌, ◌∙◌, ap, sym, subst, refl, ℕ, ◌+◌, ◌<◌, ◌≤◌, zero, suc, Bool, true, false, cond, ◌&&◌, nat_lt, List, [], ◌∷◌, ◌++◌, length, get_or, take, filter, Option, None, Some, option_map, slice_get, nat_le, ◌-◌, arith}
 use Rattle.std.specs.List.{last_or}
 use Rattle.std.proofs.lemmas.Bool.{ne_eqb}
-use Rattle.board_items.specs.declared.item.Item.{Item}
-use Rattle.board_items.specs.Units.{is_body}
+use Rattle.one_item.specs.declared.item.Item.{Item}
+use Rattle.one_item.specs.ItemKinds.{is_body}
 use Rattle.board_items.specs.ItemSlots.{present, IsUnitIn, AreUnitsIn, UnitsRise}
 use Rattle.board_items.specs.ItemNotes.{is_body_of, body_before, only_body}
 

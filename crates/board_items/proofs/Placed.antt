@@ -2,9 +2,9 @@
 use Rattle.std.proofs.Common.{◌≡◌, ◌≢◌, ◌∙◌, ap, sym, subst, refl, ℕ, ◌+◌, ◌<◌, ◌≤◌, zero, suc, Bool, true, false, cond, nat_eq, nat_lt, List, [], ◌∷◌, ◌++◌, length, get_or, set, take, drop, map, filter, Option, None, Some, Vec, arith, eq-eqb}
 use Rattle.std.specs.Map.{lookup}
 use Rattle.std.specs.declared.alloc.Global.{Global}
-use Rattle.board_items.specs.declared.item.Item.{Item}
-use Rattle.board_items.specs.Boards.{PlainBoard, IsSound, Rise, UnitsBelow, AllAdmitted, AreDistinct, item_at, ids_where, is_admitted, is_mark}
-use Rattle.board_items.specs.ItemMoves.{is_note}
+use Rattle.one_item.specs.declared.item.Item.{Item}
+use Rattle.one_item.specs.ItemKinds.{is_mark, is_note}
+use Rattle.board_items.specs.Boards.{PlainBoard, IsSound, Rise, UnitsBelow, AllAdmitted, AreDistinct, item_at, ids_where, is_admitted}
 use Rattle.board_items.specs.ItemNotes.{notes_of}
 use Rattle.board_items.specs.BoardCaches.{IsNetAt, AreIdsOf, IsKept}
 use Rattle.board_items.specs.ItemSlots.{present, AreUnitsIn}

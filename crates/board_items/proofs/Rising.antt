@@ -1,8 +1,9 @@
 -- Lists of items whose ids rise.
 use Rattle.std.proofs.Common.{◌≡◌, ◌≢◌, ℕ, ◌+◌, ◌<◌, ◌≤◌, Bool, true, false, cond, List, [], ◌∷◌, ◌++◌, None, Some, nat_eq, map, filter, refl, ◌∙◌, ap, subst, arith, eq-eqb}
 use Rattle.std.proofs.lemmas.Bool.{eqb-true}
-use Rattle.board_items.specs.declared.item.Item.{Item}
-use Rattle.board_items.specs.Boards.{Rise, IsRising, UnitsBelow, item_at, is_mark, marks_of, ids_where}
+use Rattle.one_item.specs.declared.item.Item.{Item}
+use Rattle.one_item.specs.ItemKinds.{is_mark}
+use Rattle.board_items.specs.Boards.{Rise, IsRising, UnitsBelow, item_at, marks_of, ids_where}
 
 pub rise_ends : (low high : ℕ) (xs : List (ℕ × Item)) → Rise low high xs → low ≤ high
 rise_ends low high [] h = h

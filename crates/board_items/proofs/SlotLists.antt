@@ -4,12 +4,13 @@ use Rattle.std.specs.Prelude.{MatchBool}
 use Rattle.std.specs.List.{AllZip, list_all, slice_get}
 use Rattle.std.proofs.lemmas.List.Elements.{All-nil, All-cons}
 use Rattle.std.proofs.lemmas.Bool.{eqb-true, ne_eqb}
-use Rattle.board_items.specs.declared.item.Item.{Item}
+use Rattle.one_item.specs.declared.item.Item.{Item}
 use Rattle.board_items.specs.Boards.{PlainBoard, item_at}
-use Rattle.board_items.specs.ItemParts.{parts_of, FirstHasPoints}
-use Rattle.board_items.specs.ItemMoves.{IsShiftedItem, IsMovedEntry, HaveFirstPoints, moves, item_stays, unit_stays}
+use Rattle.one_item.specs.ItemParts.{parts_of, FirstHasPoints}
+use Rattle.one_item.specs.ItemMoves.{IsShiftedItem, item_stays}
+use Rattle.board_items.specs.UnitMoves.{IsMovedEntry, HaveFirstPoints, moves, unit_stays}
 use Rattle.board_items.specs.ItemSlots.{present, at_slot, without_id, is_slot_of, slot_stays, IsMovedSlot}
-use Rattle.board_items.proofs.MovedParts.{moved_item}
+use Rattle.board_items.proofs.MovedItems.{moved_item}
 
 -- ---- numbers
 is_lt : (a b : ℕ) → a < b → nat_lt a b ≡ true

@@ -7,11 +7,12 @@ use Rattle.std.specs.Prelude.{MatchBool}
 use Rattle.std.specs.Vec.{with_items}
 use Rattle.std.specs.List.{AllZip}
 use Rattle.std.specs.declared.alloc.Global.{Global}
-use Rattle.board_items.specs.declared.item.Item.{Item}
-use Rattle.board_items.specs.ItemMoves.{IsShiftedItem, moves}
+use Rattle.one_item.specs.declared.item.Item.{Item}
+use Rattle.one_item.specs.ItemMoves.{IsShiftedItem}
+use Rattle.board_items.specs.UnitMoves.{moves}
 use Rattle.board_items.specs.ItemSlots.{present, IsMovedSlot}
 use Rattle.board_items.specs.Tags.{tag_of, IsTagIn, AreTagsIn, is_tag_in, are_tags_in, all_named, named_from, only_named}
-use Rattle.board_items.proofs.MovedParts.{moved_item}
+use Rattle.board_items.proofs.MovedItems.{moved_item}
 use Rattle.board_items.proofs.Walking.{left_at}
 
 pub as_many : (slots : List (Option Item)) (tags : List ℕ) → AreTagsIn slots tags → length tags ≡ length slots

@@ -5,7 +5,7 @@ use Rattle.std.proofs.lemmas.List.Sorted.{IsNonDecreasingBy-from_default}
 use Rattle.std.specs.List.{AllZip, list_all}
 use Rattle.std.specs.List.Sorted.{IsNonDecreasingBy}
 use Rattle.geo_seg.proofs.Rewritten.{Rewritten}
-use Rattle.board_items.specs.declared.item.Item.{Item}
+use Rattle.one_item.specs.declared.item.Item.{Item}
 use Rattle.board_items.specs.Back.{entries_of}
 use Rattle.board_items.specs.ItemSlots.{present, unit_items, IsUnitIn, AreUnitsIn, are_units_in, UnitsRise, ArePlacesOf, HaveIdsIn, slot_stays, IsMovedSlot}
 use Rattle.board_items.proofs.SlotLists.{passed_unit}

@@ -6,11 +6,13 @@ use Rattle.std.specs.Prelude.{MatchBool}
 use Rattle.std.specs.Vec.{with_items}
 use Rattle.std.specs.List.{AllZip, list_all}
 use Rattle.std.specs.declared.alloc.Global.{Global}
-use Rattle.board_items.specs.declared.item.Item.{Item}
-use Rattle.board_items.specs.ItemParts.{parts_of, FirstHasPoints}
-use Rattle.board_items.specs.ItemMoves.{IsShiftedItem, moves, is_note, item_stays}
+use Rattle.one_item.specs.declared.item.Item.{Item}
+use Rattle.one_item.specs.ItemParts.{parts_of, FirstHasPoints}
+use Rattle.one_item.specs.ItemMoves.{IsShiftedItem, item_stays}
+use Rattle.one_item.specs.ItemKinds.{is_note}
+use Rattle.board_items.specs.UnitMoves.{moves}
 use Rattle.board_items.specs.ItemSlots.{present, unit_items, only_of, without_id, is_slot_of, IsUnitIn, AreUnitsIn, is_unit_in, are_units_in, slot_stays, IsMovedSlot}
-use Rattle.board_items.proofs.MovedParts.{moved_item}
+use Rattle.board_items.proofs.MovedItems.{moved_item}
 use Rattle.board_items.proofs.Walking.{left_at}
 use Rattle.board_items.proofs.SlotLists.{part, without_part, empty_slot}
 

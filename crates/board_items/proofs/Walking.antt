@@ -1,6 +1,6 @@
 -- Lists that are gone through from the first element on.
 use Rattle.std.proofs.Common.{◌≡◌, ℕ, zero, suc, ◌<◌, ◌≤◌, true, false, cond, List, [], ◌∷◌, length, get_or, drop, Some, option_map, find, bytes_eq, refl, ap, arith}
-use Rattle.board_items.specs.declared.item.Item.{Item}
+use Rattle.one_item.specs.declared.item.Item.{Item}
 use Rattle.board_items.specs.Units.{first_named}
 
 -- what is left begins with the next one

@@ -3,7 +3,7 @@ use Rattle.std.specs.Prelude.{◌≡◌, ◌≢◌, ◌⊎◌, ◌<◌, ◌≤�
 use Rattle.std.specs.List.{AllPairs}
 use Rattle.plain_types.specs.Limits.{most_items}
 use Rattle.board_items.specs.declared.back.Kept.{Kept}
-use Rattle.board_items.specs.declared.item.Item.{Item}
+use Rattle.one_item.specs.declared.item.Item.{Item}
 use Rattle.board_items.specs.Boards.{PlainBoard, Rise, item_at, is_admitted}
 
 -- an id with the item that stood under it

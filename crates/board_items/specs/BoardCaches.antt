@@ -2,7 +2,7 @@
 -- many items there are, and the unit and the tag of each slot.
 use Rattle.std.specs.Prelude.{◌≡◌, ℕ, zero, suc, Bool, true, List, [], ◌∷◌, length, Option, Vec}
 use Rattle.std.specs.declared.alloc.Global.{Global}
-use Rattle.board_items.specs.declared.item.Item.{Item}
+use Rattle.one_item.specs.declared.item.Item.{Item}
 use Rattle.board_items.specs.ItemSlots.{AreUnitsIn, UnitsRise}
 use Rattle.board_items.specs.Tags.{AreTagsIn}
 use Rattle.board_items.specs.ItemNotes.{notes_of}

@@ -1,7 +1,7 @@
 -- What the iterators over a board have still to give.
 use Rattle.std.specs.Prelude.{ℕ, List}
 use denote.Ref.{Bor}
-use Rattle.board_items.specs.declared.item.Item.{Item}
+use Rattle.one_item.specs.declared.item.Item.{Item}
 use Rattle.board_items.specs.ItemSlots.{present, unit_items}
 use Rattle.board_items.specs.Tags.{named_from}
 use Rattle.board_items.specs.declared.walk.BoardIter.{BoardIter}

@@ -1,16 +1,14 @@
 -- A board as plain lists. Lengths are nanometres, and the places of its items are their ids.
-use Rattle.std.specs.Prelude.{◌≡◌, ℕ, ◌+◌, ◌<◌, ◌≤◌, max, ℤ, neg_ℤ, Bool, true, false, ◌&&◌, List, [], ◌∷◌, ◌++◌, length, Option, None, Some, is_some, slice_get, nat_eq, map, filter, if◌then◌else◌}
-use Rattle.std.specs.Int.Signed.{le_z}
+use Rattle.std.specs.Prelude.{◌≡◌, ℕ, ◌+◌, ◌<◌, ◌≤◌, max, Bool, true, ◌&&◌, List, [], ◌∷◌, ◌++◌, length, Option, None, Some, is_some, slice_get, nat_eq, map, filter, if◌then◌else◌}
 use Rattle.std.specs.List.{list_all}
 use Rattle.std.specs.Map.{lookup}
-use Rattle.plain_types.specs.Lengths.{greatest}
 use Rattle.plain_types.specs.Limits.{most_items}
 use Rattle.copper_layers.specs.declared.set.LayerSet.{LayerSet}
-use Rattle.board_items.specs.declared.item.What.{What}
-use Rattle.board_items.specs.declared.item.What.TheVariants.{Area, Body}
-use Rattle.board_items.specs.declared.item.Item.{Item}
+use Rattle.one_item.specs.declared.item.Item.{Item}
 use Rattle.copper_layers.specs.Layers.{is_within}
-use Rattle.board_items.specs.ItemParts.{parts_of}
+use Rattle.one_item.specs.ItemParts.{parts_of}
+use Rattle.one_item.specs.Positions.{is_on_board}
+use Rattle.one_item.specs.ItemKinds.{is_mark}
 
 -- the layers of its copper, its nets by number in the order of the file, its items with their ids in order, and the id and
 -- the unit number that are given next
@@ -46,14 +44,6 @@ with_item board item = record board {
   next_unit = max board.next_unit (item.unit + 1);
 }
 
--- at most 500 mm from 0, in nanometres
-abbrev pub is_near : ℤ → Bool
-is_near z = le_z (neg_ℤ greatest) z && le_z z greatest
-
--- the position lies on the board; the points of all shapes do so by their type
-abbrev pub is_on_board : Item → Bool
-is_on_board item = is_near item.x && is_near item.y
-
 -- the board has all layers of all parts
 abbrev pub has_layers_of : PlainBoard → Item → Bool
 has_layers_of board item = list_all (λ part. is_within part.layers board.copper) (parts_of item)
@@ -61,12 +51,6 @@ has_layers_of board item = list_all (λ part. is_within part.layers board.copper
 -- the item may stand on the board: its position lies there, its net is declared, and the board has all its layers
 abbrev pub is_admitted : PlainBoard → Item → Bool
 is_admitted board item = is_on_board item && is_some (name_of board item.net) && has_layers_of board item
-
--- the kinds that facts of other items speak of: areas and bodies
-abbrev pub is_mark : What → Bool
-is_mark (Area title bans shape) = true
-is_mark (Body reference front back on_back) = true
-is_mark _ = false
 
 -- the ids of the items that pass the test, in order
 abbrev pub ids_where : (Item → Bool) → List (ℕ × Item) → List ℕ

@@ -1,10 +1,9 @@
 -- Notes of a board, and the bodies of footprints that they speak of.
 use Rattle.std.specs.Prelude.{ℕ, Bool, ◌&&◌, nat_eq, nat_lt, List, Option, None, Some, option_map, filter, if◌then◌else◌}
 use Rattle.std.specs.List.{last_or}
-use Rattle.board_items.specs.declared.item.Item.{Item}
+use Rattle.one_item.specs.declared.item.Item.{Item}
 use Rattle.board_items.specs.Boards.{PlainBoard, ids_where, item_at}
-use Rattle.board_items.specs.ItemMoves.{is_note}
-use Rattle.board_items.specs.Units.{is_body}
+use Rattle.one_item.specs.ItemKinds.{is_note, is_body}
 
 -- the ids of all notes
 abbrev pub notes_of : List (ℕ × Item) → List ℕ

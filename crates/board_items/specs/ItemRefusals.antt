@@ -3,9 +3,9 @@ use Rattle.std.specs.Prelude.{ℕ, ◌-◌, min, not, length, nat_le, Option, No
 use Rattle.plain_types.specs.Limits.{most_items}
 use Rattle.board_errors.specs.declared.errors.ItemError.{ItemError}
 use Rattle.board_errors.specs.declared.errors.ItemError.TheVariants.{OutOfBoard, UnknownNet, UnknownLayer, TooMany, OutOfMemory}
-use Rattle.board_items.specs.declared.item.Item.{Item}
-use Rattle.board_items.specs.Boards.{PlainBoard, name_of}
-pub use Rattle.board_items.specs.Boards.{is_near, is_on_board, has_layers_of}
+use Rattle.one_item.specs.declared.item.Item.{Item}
+use Rattle.one_item.specs.Positions.{is_on_board}
+use Rattle.board_items.specs.Boards.{PlainBoard, name_of, has_layers_of}
 
 -- how many more items a board takes: up to 200,000 items, and as long as an id below 2 ^ 32 - 1 is left
 abbrev pub capacity_of : PlainBoard → ℕ

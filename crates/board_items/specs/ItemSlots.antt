@@ -1,9 +1,10 @@
 -- Items by id, kept as a row of slots: slot k is for the id k, and it is empty once its item was taken out.
 use Rattle.std.specs.Prelude.{◌≡◌, ◌<◌, ◌≤◌, ℕ, ◌+◌, ℤ, Bool, true, false, ◌&&◌, not, nat_eq, List, [], ◌∷◌, length, get_or, filter, Option, None, Some, MatchBool, if◌then◌else◌}
-use Rattle.board_items.specs.declared.item.Item.{Item}
-use Rattle.board_items.specs.ItemParts.{parts_of, FirstHasPoints}
-use Rattle.board_items.specs.Boards.{is_on_board}
-use Rattle.board_items.specs.ItemMoves.{IsShiftedItem, moves, item_stays}
+use Rattle.one_item.specs.declared.item.Item.{Item}
+use Rattle.one_item.specs.ItemParts.{parts_of, FirstHasPoints}
+use Rattle.one_item.specs.Positions.{is_on_board}
+use Rattle.one_item.specs.ItemMoves.{IsShiftedItem, item_stays}
+use Rattle.board_items.specs.UnitMoves.{moves}
 
 -- the items that are there with their ids, where the first slot is for the id k
 abbrev pub present : ℕ → List (Option Item) → List (ℕ × Item)

@@ -1,14 +1,9 @@
-pub mod ItemParts
-pub mod Measures
-pub mod Extents
 pub mod Boards
 pub mod ItemRefusals
 pub mod BoardIterators
-pub mod QuarterTurns
-pub mod CopperPairs
 pub mod BoardCaches
 pub mod Units
-pub mod ItemMoves
+pub mod UnitMoves
 pub mod ItemSlots
 pub mod Tags
 pub mod ItemNotes

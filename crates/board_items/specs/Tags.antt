@@ -1,6 +1,6 @@
 -- Tags of names: a row of numbers beside the slots, by which the items of a name are sought without a look at most others.
 use Rattle.std.specs.Prelude.{◌≡◌, ◌<◌, ℕ, ◌+◌, ◌-◌, ◌*◌, ◌%◌, ◌^◌, Bool, true, false, ◌&&◌, nat_eq, bytes_eq, List, [], ◌∷◌, length, drop, filter, Option, None, Some, if◌then◌else◌}
-use Rattle.board_items.specs.declared.item.Item.{Item}
+use Rattle.one_item.specs.declared.item.Item.{Item}
 use Rattle.board_items.specs.ItemSlots.{present}
 
 -- the tag with one more byte

@@ -1,12 +1,11 @@
 -- Units: the items that came from one list of the board file.
-use Rattle.std.specs.Prelude.{ℕ, Bool, true, false, ◌&&◌, not, nat_eq, List, [], ◌∷◌, Option, Some, None as Nothing, option_map, find, filter, bytes_eq, if◌then◌else◌}
+use Rattle.std.specs.Prelude.{ℕ, Bool, false, ◌&&◌, not, nat_eq, List, [], ◌∷◌, Option, Some, None as Nothing, option_map, find, filter, bytes_eq, if◌then◌else◌}
 use Rattle.std.specs.List.{list_any}
 use Rattle.std.specs.Option.{option_map_or}
 use Rattle.board_items.specs.declared.found.Found.{Found}
 use Rattle.board_items.specs.declared.found.Found.TheVariants.{None, Shared, Inside, Unit}
-use Rattle.board_items.specs.declared.item.What.{What}
-use Rattle.board_items.specs.declared.item.What.TheVariants.{Body}
-use Rattle.board_items.specs.declared.item.Item.{Item}
+use Rattle.one_item.specs.declared.item.Item.{Item}
+use Rattle.one_item.specs.ItemKinds.{is_body}
 use Rattle.board_items.specs.Boards.{PlainBoard, item_at}
 
 -- the board without the items of the unit; what is left keeps its ids, and none is given again
@@ -29,10 +28,6 @@ is_shared unit name items = list_any (λ entry. bytes_eq entry.1.name name && no
 -- one of these is of another unit
 abbrev pub has_other_unit : ℕ → List (ℕ × Item) → Bool
 has_other_unit unit items = list_any (λ entry. not (nat_eq entry.1.unit unit)) items
-
-abbrev pub is_body : What → Bool
-is_body (Body reference front back on_back) = true
-is_body _ = false
 
 -- one of these is a body with another name
 abbrev pub has_body_named_otherwise : List ℕ → List (ℕ × Item) → Bool

@@ -6,11 +6,11 @@ ghost use Rattle.std.specs.List.{insert};
 ghost use Rattle.board_items.specs.ItemSlots.{UnitsRise};
 ghost use Rattle.board_items.specs.Units.{without_unit};
 ghost use Rattle.board_items.specs.Back.{kept_entry, entries_of, own_at, id_placed, placed, FitsOne, FitsBack, IsPutBack};
-ghost use Rattle.board_items.specs.declared.item.Item.{Item};
+ghost use Rattle.one_item.specs.declared.item.Item.{Item};
 
 use crate::board::Board;
-use crate::item::Item;
 use crate::tags::tag_of;
+use one_item::Item;
 use std::alloc::AllocError;
 
 /// An item that was taken out of a board, with the id under which it stood there.

@@ -5,10 +5,10 @@ ghost use Rattle.std.specs.Option.{option_copied};
 ghost use Rattle.std.specs.List.{list_all};
 ghost use Rattle.plain_types.specs.Limits.{AreCounted};
 ghost use Rattle.copper_layers.specs.Layers.{is_within};
-ghost use Rattle.board_items.specs.ItemParts.{parts_of};
+ghost use Rattle.one_item.specs.ItemParts.{parts_of};
 ghost use Rattle.board_items.specs.ItemRefusals.{refusal_of, reason_in, capacity_of};
-ghost use Rattle.board_items.specs.Boards.{PlainBoard, IsSound, empty_board, name_of, with_net, item_at, with_item, is_near, is_admitted, is_mark, marks_of, ids_of_net};
-ghost use Rattle.board_items.specs.ItemMoves.{unit_stays, IsMoved, HaveFirstPoints};
+ghost use Rattle.board_items.specs.Boards.{PlainBoard, IsSound, empty_board, name_of, with_net, item_at, with_item, is_admitted, marks_of, ids_of_net};
+ghost use Rattle.board_items.specs.UnitMoves.{unit_stays, IsMoved, HaveFirstPoints};
 ghost use Rattle.board_items.specs.ItemSlots.{present, without_id};
 ghost use Rattle.board_items.specs.ItemNotes.{notes_of, body_of};
 ghost use Rattle.board_items.specs.Units.{without_unit, found_of};
@@ -17,10 +17,8 @@ ghost use Rattle.board_items.specs.BoardIterators.{items_left, unit_left, nets_l
 
 use crate::back::reserve_one;
 use crate::found::Found;
-use crate::item::{Item, Nm, What};
-use crate::moves::{Step, shift_slots, slots_stay};
+use crate::moves::{shift_slots, slots_stay};
 use crate::notes::{goes_on, last_body};
-use crate::parts::Part;
 use crate::places::places_in;
 use crate::slots::{drop_id, drop_if, item_at};
 use crate::tags::tag_of;
@@ -30,7 +28,8 @@ use board_errors::ItemError;
 use copper_layers::LayerSet;
 use drc_io::Name;
 use indexmap::IndexMap;
-use plain_types::{GREATEST_LENGTH, MOST_ITEMS};
+use one_item::{Item, Nm, Part, Step, is_near};
+use plain_types::MOST_ITEMS;
 use std::alloc::{AllocError, Global};
 use std::marker::Model;
 
@@ -94,22 +93,6 @@ fn has_layers_of(copper: LayerSet, item: &Item) -> bool
         && drilled
         && are_within(first, copper)
         && are_within(second, copper)
-}
-
-/// Whether a coordinate is at most 500 mm from 0.
-pub fn is_near(z: Nm) -> bool
-    ensures { result ≡ is_near z }
-{
-    -GREATEST_LENGTH <= z && z <= GREATEST_LENGTH
-}
-
-impl What {
-    /// Whether it is an area or a body.
-    pub(crate) fn is_mark(&self) -> bool
-        ensures { result ≡ is_mark self.now }
-    {
-        matches!(self, What::Area { .. } | What::Body { .. })
-    }
 }
 
 /// The names of the nets of a new board: net 0 alone, whose name is empty.

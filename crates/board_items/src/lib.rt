@@ -5,32 +5,24 @@
 
 mod back;
 mod board;
-mod boxed;
 mod copying;
-mod extents;
 mod found;
-mod item;
 pub mod laws;
 mod moves;
 mod notes;
-mod parts;
 mod places;
 mod slots;
 mod tags;
-mod turns;
 mod units;
 mod walk;
 
 pub use back::Kept;
-pub use board::{Board, is_near};
+pub use board::Board;
 pub use board_errors::{BoardError, ItemError};
-pub use boxed::Boxed;
 pub use copper_layers::LayerSet;
 pub use found::Found;
-pub use item::{About, Bans, Hole, Item, Nm, What};
-pub use parts::{Part, Parts};
+pub use one_item::{About, Bans, Boxed, Hole, Item, Nm, Part, Parts, What, is_near, turn};
 use plain_types::crosses_threads;
-pub use turns::turn;
 pub use walk::{BoardIter, BoardNets, UnitIter};
 
 fn all_cross() {
@@ -39,14 +31,6 @@ fn all_cross() {
 
 fn kept_cross() {
     crosses_threads::<Kept>();
-}
-
-fn items_cross() {
-    crosses_threads::<Item>();
-}
-
-fn parts_cross() {
-    crosses_threads::<Parts>();
 }
 
 fn walks_cross() {

@@ -5,7 +5,7 @@ ghost use Rattle.std.specs.Option.{option_copied};
 ghost use Rattle.board_items.specs.ItemSlots.{present, IsUnitIn, AreUnitsIn, UnitsRise};
 ghost use Rattle.board_items.specs.ItemNotes.{is_body_of, body_before, only_body};
 
-use crate::item::Item;
+use one_item::Item;
 
 /// Whether the row is in order with one more unit behind the others.
 pub(crate) fn goes_on(in_order: bool, units: &[u32], unit: u32) -> bool

@@ -5,7 +5,7 @@ ghost use Rattle.std.specs.Option.{option_copied};
 ghost use Rattle.board_items.specs.Boards.{item_at};
 ghost use Rattle.board_items.specs.ItemSlots.{present, at_slot, IsNext, IsUnitIn, are_units_in, unit_items, only_of, IsNextOf};
 
-use crate::item::Item;
+use one_item::Item;
 
 /// The item of an id.
 pub(crate) fn item_at(slots: &[Option<Item>], id: u32) -> Option<&Item>

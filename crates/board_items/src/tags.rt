@@ -8,9 +8,9 @@ ghost use Rattle.board_items.specs.Tags.{tag_next, tag_from, tag_of, are_tags_in
 ghost use Rattle.board_items.specs.BoardIterators.{named_left};
 
 use crate::board::Board;
-use crate::item::Item;
 use crate::walk::NamedIter;
 use drc_io::Name;
+use one_item::Item;
 
 // ---- tags
 

@@ -2,23 +2,12 @@
 
 ghost use Rattle.std.specs.Prelude.{◌≡◌};
 ghost use Rattle.board_items.specs.BoardIterators.{named_left, unit_left};
-ghost use Rattle.board_items.specs.Units.{found_of, is_body, has_other_unit, has_body_named_otherwise, is_footprint_named_otherwise};
+ghost use Rattle.board_items.specs.Units.{found_of, has_other_unit, has_body_named_otherwise, is_footprint_named_otherwise};
 
 use crate::board::Board;
 use crate::found::Found;
-use crate::item::What;
 use crate::walk::{NamedIter, UnitIter};
 use drc_io::Name;
-
-// ---- names
-
-impl What {
-    pub(crate) fn is_body(&self) -> bool
-        ensures { result ≡ is_body self.now }
-    {
-        matches!(self, What::Body { .. })
-    }
-}
 
 /// Whether one of these is of another unit.
 fn has_other_unit(items: NamedIter<'_>, unit: u32) -> bool

@@ -4,11 +4,11 @@ ghost use Rattle.std.specs.Prelude.{◌≡◌, ◌+◌, ◌≤◌, true, length}
 ghost use Rattle.board_items.specs.ItemSlots.{are_units_in};
 ghost use Rattle.board_items.specs.Tags.{tag_of, are_tags_in};
 
-use crate::item::Item;
 use crate::slots::{next_full, next_of_unit};
 use crate::tags::next_named;
 use drc_io::Name;
 use indexmap::map::Slice;
+use one_item::Item;
 
 /// The items of a board that are still to come, each with its id, by rising id.
 #[derive(Clone, Copy)]

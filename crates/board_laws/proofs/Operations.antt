@@ -2,10 +2,11 @@
 use Rattle.std.proofs.Common.{◌≡◌, ◌⊎◌, inl, inr, refl, sym, ap, subst, ◌∙◌, ℕ, zero, suc, ℤ, Bool, true, false, not, nat_eq, List, [], ◌∷◌, Option, None, Some, filter, MatchBool, arith}
 use Rattle.std.specs.List.{All, AllPairs, AllZip, Contains}
 use Rattle.std.proofs.lemmas.List.Elements.{All-contains}
-use Rattle.board_items.specs.declared.item.Item.{Item}
+use Rattle.one_item.specs.declared.item.Item.{Item}
 use Rattle.board_items.specs.Boards.{PlainBoard, IsSound, item_at}
 use Rattle.board_items.specs.Units.{without_unit}
-use Rattle.board_items.specs.ItemMoves.{moves, IsShiftedItem, IsMovedEntry, IsMoved}
+use Rattle.one_item.specs.ItemMoves.{IsShiftedItem}
+use Rattle.board_items.specs.UnitMoves.{moves, IsMovedEntry, IsMoved}
 use Rattle.board_items.specs.Back.{IsPutBack}
 use Rattle.board_laws.specs.Edits.{IsEdit}
 use Rattle.board_laws.proofs.Rest.{Entry, Under, rises, found_at, in_list, contains_filter, source}

@@ -1,7 +1,7 @@
 -- A board before and after an edit of the items of some ids: what is added, taken out, put back or moved.
 use Rattle.std.specs.Prelude.{◌≡◌, ◌⊎◌, ℕ, Bool, not, nat_eq, List, filter, Contains, Some}
 use Rattle.std.specs.List.{list_any}
-use Rattle.board_items.specs.declared.item.Item.{Item}
+use Rattle.one_item.specs.declared.item.Item.{Item}
 use Rattle.board_items.specs.Boards.{PlainBoard, Rise, item_at}
 
 -- all items but those of these ids are as they were, and so are the layers and the nets

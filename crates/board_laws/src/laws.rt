@@ -2,10 +2,10 @@
 
 ghost use Rattle.std.specs.Prelude.{◌≡◌, ◌≤◌, ℕ, ℤ, nat_eq, true, List, All, Contains};
 ghost use Rattle.std.specs.List.{fold};
-ghost use Rattle.board_items.specs.declared.item.Item.{Item};
+ghost use Rattle.one_item.specs.declared.item.Item.{Item};
 ghost use Rattle.board_items.specs.Boards.{PlainBoard, IsSound, with_item};
 ghost use Rattle.board_items.specs.Units.{without_unit};
-ghost use Rattle.board_items.specs.ItemMoves.{moves, IsMoved};
+ghost use Rattle.board_items.specs.UnitMoves.{moves, IsMoved};
 ghost use Rattle.board_items.specs.Back.{IsPutBack};
 ghost use Rattle.board_laws.specs.Edits.{IsEdit, other_entries};
 

@@ -5,7 +5,7 @@ use Rattle.std.proofs.lemmas.List.{get_or-set_same, get_or-set_other}
 use Rattle.std.proofs.lemmas.Bool.{eqb-true, eq-eqb}
 use Rattle.std.proofs.lemmas.Int.{ints}
 use Rattle.board_items.specs.declared.found.Found.TheVariants.{Shared, Inside, Unit as OneUnit}
-use Rattle.board_items.specs.declared.item.Item.{Item}
+use Rattle.one_item.specs.declared.item.Item.{Item}
 use Rattle.board_items.specs.Boards.{PlainBoard, IsSound, UnitsBelow}
 use Rattle.board_items.specs.Units.{first_named, is_shared, is_footprint_named_otherwise, found_by, found_of}
 use Rattle.roundtrip_lists.specs.Translated.{Shift}

@@ -18,9 +18,9 @@ use Rattle.board_errors.specs.declared.errors.BoardError.{BoardError}
 use Rattle.board_errors.specs.declared.errors.BoardError.TheVariants.{OutOfBoard, Text}
 use Rattle.board_items.specs.declared.found.Found.{Found}
 use Rattle.board_items.specs.declared.found.Found.TheVariants.{None as NoUnit, Shared, Inside, Unit as OneUnit}
-use Rattle.board_items.specs.declared.item.Item.{Item}
+use Rattle.one_item.specs.declared.item.Item.{Item}
 use Rattle.board_items.specs.Boards.{PlainBoard, IsSound}
-use Rattle.board_items.specs.ItemMoves.{unit_stays}
+use Rattle.board_items.specs.UnitMoves.{unit_stays}
 use Rattle.board_items.specs.Units.{found_of}
 use Rattle.part_read.specs.Ready.{IsReady}
 use Rattle.edit_script.specs.Commands.{PlainCommand, add, delete, move, rules, again}

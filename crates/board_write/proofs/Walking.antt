@@ -6,7 +6,7 @@ use Rattle.sexpr_read.specs.declared.place.Span.{Span}
 use Rattle.sexpr_read.specs.Tree.{Forest, none, atom, list, Tree, leaf, branch, trees, span}
 use Rattle.sexpr_read.specs.TreePlaces.{StandBetween}
 use Rattle.board_errors.specs.declared.errors.BoardError.{BoardError}
-use Rattle.board_items.specs.declared.item.Item.{Item}
+use Rattle.one_item.specs.declared.item.Item.{Item}
 use Rattle.board_items.specs.Boards.{PlainBoard, name_of, with_net, with_item}
 use Rattle.list_read.specs.FirstRefusals.{◌>>=◌}
 use Rattle.list_read.specs.ListHeads.{has_head, text_of}

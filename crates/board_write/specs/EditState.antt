@@ -2,7 +2,7 @@
 use Rattle.std.specs.Prelude.{◌≡◌, ℕ, ◌<◌, ◌≤◌, Bool, true, false, List, [], ◌∷◌, ◌++◌, length, map, All, None, Some, Result, Ok, Err, slice_set, if◌then◌else◌, ⊤}
 use Rattle.sexpr_read.specs.Spelling.{SpellsAll}
 use Rattle.sexpr_read.specs.TreeViews.{root_of}
-use Rattle.board_items.specs.declared.item.Item.{Item}
+use Rattle.one_item.specs.declared.item.Item.{Item}
 use Rattle.board_items.specs.Boards.{PlainBoard}
 use Rattle.edit_script.specs.Commands.{PlainCommand, add, delete, move, rules, again}
 use Rattle.board_edits.specs.declared.refusal.Refusal.{Refusal}

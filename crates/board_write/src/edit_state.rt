@@ -48,7 +48,8 @@ fn note_added<'t>(
     is_empty: bool,
 ) -> Result<(), AllocError>
     requires { length text.now ≤ 33554432 }
-    ensures noted { OnOk result (IsListNoted text.entry.now is_empty edit_state.old edit_state.new) }
+    ensures noted { OnOk result
+        (IsListNoted text.entry.now is_empty edit_state.old edit_state.new) }
     ensures board { OnOk result (edit_state.new.board ≡ edit_state.old.board) }
     ensures refused { OnOk result (edit_state.new.refused ≡ edit_state.old.refused) }
 {

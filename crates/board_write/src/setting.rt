@@ -141,7 +141,7 @@ fn append_place<'d, 't>(
 }
 
 /// Appends the opening bracket of a list, with the place of the list where that is moved, and gives what follows.
-fn append_prefix<'d, 't>(
+fn append_opening<'d, 't>(
     out: &mut Vec<u8>,
     setting: Setting<'_>,
     list: Node<'d, 't>,
@@ -181,7 +181,7 @@ fn append_parts(
         let span = part.span();
         append(out, setting.gap(from, span.at as usize, is_first))?;
         if part.is_list() {
-            let inside = append_prefix(out, setting, part, moving)?;
+            let inside = append_opening(out, setting, part, moving)?;
             append_parts(out, setting, inside, end_inside(span), moving.within())?;
             append(out, b")")?;
             moving = moving.behind(part);

@@ -13,7 +13,7 @@ mod texts;
 mod threads;
 
 pub use fault::Fault;
-pub use lines::try_files;
+pub use lines::{Counts, try_files};
 pub use numbers::{number, numbers_of, parts_of, small};
 pub use outcome::{Outcome, difference};
 pub use texts::{add, first_word, quoted, refused, text_of, told};

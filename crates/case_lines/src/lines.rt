@@ -10,15 +10,21 @@ use std::process::ExitCode;
 use std::rt::Files;
 use std::{env, fs, io};
 
-/// How many cases were answered as expected, and how many cases and lines were not.
+/// How many cases ended as expected, and how many cases and lines did not.
 #[derive(Clone, Copy)]
-struct Counts {
+pub struct Counts {
     ok: u64,
     differ: u64,
 }
 
 impl Counts {
-    fn count(&mut self, is_ok: bool)
+    /// No case was tried.
+    pub fn none() -> Counts {
+        Counts { ok: 0, differ: 0 }
+    }
+
+    /// Counts one more case or line.
+    pub fn count(&mut self, is_ok: bool)
         ensures ok { self.new.ok ≡ (if is_ok then min (self.old.ok
             + 1) (2 ^ 64 - 1) else self.old.ok) }
         ensures differ { self.new.differ
@@ -29,6 +35,13 @@ impl Counts {
         } else {
             self.differ = self.differ.saturating_add(1);
         }
+    }
+
+    /// Prints how many there were of both. The status is 1 where one was not as expected.
+    pub fn tell<R: Print>(self, rt: &R) -> io::Result<ExitCode> {
+        let Counts { ok, differ } = self;
+        println!(rt; "{ok} ok, {differ} differ")?;
+        Ok(ExitCode::from(if differ == 0 { 0 } else { 1 }))
     }
 }
 
@@ -124,12 +137,10 @@ pub fn try_files<R: AllocGlobal + Print + Files + Env, A: Fn(&str) -> Result<Vec
 ) -> io::Result<ExitCode>
     requires { A.IsAlwaysCallable answer }
 {
-    let mut counts = Counts { ok: 0, differ: 0 };
+    let mut counts = Counts::none();
     for file in env::args(rt)?.skip(1) {
         let text = fs::read_to_string(rt, file.as_str())?;
         try_text(rt, &mut counts, &text, &answer)?;
     }
-    let Counts { ok, differ } = counts;
-    println!(rt; "{ok} ok, {differ} differ")?;
-    Ok(ExitCode::from(if differ == 0 { 0 } else { 1 }))
+    counts.tell(rt)
 }

@@ -6,9 +6,9 @@ ghost use Rattle.edit_script.specs.Fits.{Fits};
 
 use crate::answers::{Answer, answer_at};
 use crate::calls::Texts;
-use crate::fault::Reason;
 use crate::opening;
 use case_gates::Turns;
+use case_reader::Reason;
 use drc_session::Session;
 use edit_script::Command;
 use std::alloc::{AllocError, AllocGlobal, Global};

@@ -1,10 +1,9 @@
 //! Calls of crates beneath the program. Each takes two of the case's files: a board, and a script or a rule file.
 
-use crate::case::Given;
-use crate::fault::Reason;
 use crate::{alike, pairs, stopping, surveys, trying, writing};
 use case_gates::Turns;
 use case_lines::Outcome;
+use case_reader::{Given, Reason};
 use std::alloc::{AllocError, AllocGlobal};
 use std::io::Print;
 use std::thread::Threads;

@@ -9,38 +9,26 @@ mod alike;
 mod all_pairs;
 mod answers;
 mod calls;
-mod case;
-mod cuts;
-mod fault;
 mod nets;
 mod opening;
 mod pairs;
-mod reader;
+mod runs;
 mod stopping;
 mod surveys;
-mod texts;
 mod trying;
 mod writing;
 
-use case::{Case, Given, Shorter};
-use case_lines::{Outcome, difference};
-use cuts::Cut;
-use fault::Fault;
-use reader::{Line, first_case, lines_of, read_case};
+use case_lines::{Counts, Outcome, difference};
+use case_reader::{
+    Case, Cut, Fault, Given, Line, Shorter, Shorthands, first_case, lines_of, read_case,
+};
+use runs::outcome;
 use std::alloc::AllocError;
 use std::env::Env;
 use std::process::ExitCode;
 use std::rt::Files;
 use std::thread::Threads;
 use std::{env, fs, io};
-use texts::Shorthands;
-
-/// How many cases ended as expected, and how many cases and lines did not.
-#[derive(Clone, Copy)]
-struct Counts {
-    ok: u64,
-    differ: u64,
-}
 
 /// What differs where a case is run or called, with a file that may be cut.
 fn fault_at<R: Threads + Sync + AllocGlobal + Print>(
@@ -50,7 +38,7 @@ fn fault_at<R: Threads + Sync + AllocGlobal + Print>(
     expected: &Outcome,
 ) -> Result<Option<String>, AllocError> {
     let gate = given.gate();
-    let found = given.outcome(rt, &gate, expected.text.len(), shorter)?;
+    let found = outcome(rt, given, &gate, expected.text.len(), shorter)?;
     match given.held_otherwise(rt.alloc(), &gate)? {
         Some(text) => Ok(Some(text)),
         None => difference(rt.alloc(), &found, expected),
@@ -113,22 +101,17 @@ fn try_case<R: Threads + Sync + AllocGlobal + Print>(
 ) -> io::Result<()> {
     let fault = fault_of(rt, &case)?;
     let name = case.name.as_str();
+    counts.count(fault.is_none());
     match fault {
-        None => {
-            counts.ok = counts.ok.saturating_add(1);
-            println!(rt; "{name} ok")
-        }
-        Some(fault) => {
-            counts.differ = counts.differ.saturating_add(1);
-            println!(rt; "{name}: {fault}")
-        }
+        None => println!(rt; "{name} ok"),
+        Some(fault) => println!(rt; "{name}: {fault}"),
     }
 }
 
 /// Prints why a line cannot be read.
 fn refuse<R: Print>(rt: &R, counts: &mut Counts, file: &str, fault: Fault) -> io::Result<()> {
     let Fault { line, reason } = fault;
-    counts.differ = counts.differ.saturating_add(1);
+    counts.count(false);
     println!(rt; "{file}:{line}: {reason}")
 }
 
@@ -167,7 +150,7 @@ fn try_file<R: Threads + Sync + AllocGlobal + Print + Files>(
 }
 
 fn try_files<R: Threads + Sync + AllocGlobal + Print + Files + Env>(rt: &R) -> io::Result<Counts> {
-    let mut counts = Counts { ok: 0, differ: 0 };
+    let mut counts = Counts::none();
     for file in env::args(rt)?.skip(1) {
         try_file(rt, &mut counts, file.as_str())?;
     }
@@ -175,7 +158,5 @@ fn try_files<R: Threads + Sync + AllocGlobal + Print + Files + Env>(rt: &R) -> i
 }
 
 fn main(rt: HostRuntime) -> io::Result<ExitCode> {
-    let Counts { ok, differ } = try_files(&rt)?;
-    println!(rt; "{ok} ok, {differ} differ")?;
-    Ok(ExitCode::from(if differ == 0 { 0 } else { 1 }))
+    try_files(&rt)?.tell(&rt)
 }

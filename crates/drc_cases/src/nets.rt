@@ -2,10 +2,10 @@
 
 ghost use Rattle.board_index.specs.IndexedItems.{HoldsItems};
 
-use crate::fault::Reason;
 use board_index::index_of;
 use board_items::Board;
 use box_index::TileIndex;
+use case_reader::Reason;
 use drc_io::{Failed, MemSink};
 use drc_rows::{write_line, write_net};
 use net_groups::{anchors, groups};

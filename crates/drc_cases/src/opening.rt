@@ -5,9 +5,9 @@ ghost use Rattle.edit_script.specs.Commands.{plain_command};
 ghost use Rattle.edit_script.specs.Fits.{Fits};
 
 use crate::calls::LIMIT;
-use crate::fault::Reason;
 use board_items::BoardError;
 use case_gates::Turns;
+use case_reader::Reason;
 use drc_session::Session;
 use edit_script::{Command, ScriptError, read_script};
 use net_class::Classes;

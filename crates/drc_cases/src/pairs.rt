@@ -6,10 +6,10 @@ ghost use Rattle.pair_check.specs.CheckViews.{IsWholeView};
 
 use crate::all_pairs::rows_of_all_pairs;
 use crate::calls::{LIMIT, Texts};
-use crate::fault::Reason;
 use crate::nets;
 use board_items::Board;
 use case_gates::Turns;
+use case_reader::Reason;
 use drc_io::{MemShelf, MemSink, Name};
 use drc_rows::{write_line, write_notes, write_rows};
 use drc_run::run;

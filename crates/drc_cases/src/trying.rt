@@ -5,9 +5,9 @@ ghost use Rattle.edit_script.specs.Commands.{plain_command};
 ghost use Rattle.edit_script.specs.Fits.{Fits};
 
 use crate::calls::Texts;
-use crate::fault::Reason;
 use crate::opening;
 use case_gates::Turns;
+use case_reader::Reason;
 use drc_session::Session;
 use edit_script::Command;
 use std::alloc::AllocGlobal;

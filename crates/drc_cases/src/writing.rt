@@ -5,10 +5,9 @@ ghost use Rattle.edit_script.specs.Commands.{plain_command};
 ghost use Rattle.edit_script.specs.Fits.{Fits};
 
 use crate::calls::{LIMIT, Texts};
-use crate::case::Given;
-use crate::fault::Reason;
 use crate::opening;
 use board_write::write_board;
+use case_reader::{Given, Reason};
 use edit_script::Command;
 use std::alloc::AllocGlobal;
 

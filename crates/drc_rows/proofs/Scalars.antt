@@ -6,8 +6,9 @@ use Rattle.std.specs.Prelude.{unsigned_abs}
 use Rattle.int_algebra.proofs.Scalars.{passed}
 use Rattle.exact_dec.specs.MillimetreText.{mm_text}
 use Rattle.plain_types.specs.Lengths.{IsLength}
-use Rattle.board_items.specs.declared.item.Item.{Item}
-use Rattle.board_items.specs.Boards.{PlainBoard, is_near, is_on_board, is_admitted, name_of, has_layers_of}
+use Rattle.one_item.specs.declared.item.Item.{Item}
+use Rattle.one_item.specs.Positions.{is_near, is_on_board}
+use Rattle.board_items.specs.Boards.{PlainBoard, is_admitted, name_of, has_layers_of}
 use Rattle.kind_subjects.specs.LimitedLengths.{IsNearZero}
 
 -- a length, as it is passed to a call

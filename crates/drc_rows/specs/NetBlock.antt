@@ -3,7 +3,7 @@
 use Rattle.std.specs.Prelude.{ℕ, List, [], ◌++◌, length, codes, decimal, Option, None, Some, unwrap_or}
 use Rattle.std.specs.List.{flat_map}
 use Rattle.exact_dec.specs.MillimetreText.{mm_text}
-use Rattle.board_items.specs.declared.item.Item.{Item}
+use Rattle.one_item.specs.declared.item.Item.{Item}
 use Rattle.board_items.specs.Boards.{PlainBoard, item_at, name_of}
 use Rattle.net_groups.specs.ConnectedClasses.{least}
 use Rattle.ratsnest.specs.declared.anchor.Anchor.{Anchor}

@@ -3,11 +3,11 @@
 -- own name and that of its rule.
 use Rattle.std.specs.Prelude.{ℕ, List, [], ◌++◌, ◌+◌, length, codes, Option, None, Some, slice_get}
 use Rattle.std.specs.List.{flat_map}
-use Rattle.board_items.specs.declared.item.About.{About}
-use Rattle.board_items.specs.declared.item.About.TheVariants.{Text, Dimension, Courtyard, FootZone}
-use Rattle.board_items.specs.declared.item.What.{What}
-use Rattle.board_items.specs.declared.item.What.TheVariants.{Body, Note}
-use Rattle.board_items.specs.declared.item.Item.{Item}
+use Rattle.one_item.specs.declared.item.About.{About}
+use Rattle.one_item.specs.declared.item.About.TheVariants.{Text, Dimension, Courtyard, FootZone}
+use Rattle.one_item.specs.declared.item.What.{What}
+use Rattle.one_item.specs.declared.item.What.TheVariants.{Body, Note}
+use Rattle.one_item.specs.declared.item.Item.{Item}
 use Rattle.board_items.specs.Boards.{PlainBoard, item_at}
 use Rattle.board_items.specs.ItemNotes.{notes_of, body_of}
 use Rattle.cond_lang.specs.Rules.{PlainRule}

@@ -1,7 +1,8 @@
 //! How an item stands in a line: by its kind, a name, and its place.
 
 ghost use Rattle.std.specs.Prelude.{◌≡◌, ◌++◌, IsSome, codes, true};
-ghost use Rattle.board_items.specs.Boards.{item_at, is_on_board};
+ghost use Rattle.one_item.specs.Positions.{is_on_board};
+ghost use Rattle.board_items.specs.Boards.{item_at};
 ghost use Rattle.drc_rows.specs.Buffer.{Buffered, named};
 ghost use Rattle.drc_rows.specs.Report.{title_of, item_text, text_of};
 

@@ -380,7 +380,7 @@ module _ (one_reading : (text : List ℕ) (a b : Result PlainBoard BoardError) �
     same_lines : (a b : List ℕ) → nothing a ≡ nothing b → a ≡ b
     same_lines a b e = cc
 
-    pub one_output_of : (call : PlainCall) (a b : Output) → IsOutputFor call (Some files) a → IsOutputFor call (Some files) b → a ≡ b
+    one_output_of : (call : PlainCall) (a b : Output) → IsOutputFor call (Some files) a → IsOutputFor call (Some files) b → a ≡ b
     one_output_of call a b (unclear l c e) (unclear m d f) = e ∙ (ap usage (same_lines l m (sym c ∙ d)) ∙ sym f)
     one_output_of call a b (unclear l c e) (stopped u how s g d) = absurd (not_unclear call l u c s)
     one_output_of call a b (unclear l c e) (given ws q u) = absurd (subst (λ (x : PlainCall). IsTextOf x ws b) c u)
@@ -400,12 +400,10 @@ module _ (one_reading : (text : List ℕ) (a b : Result PlainBoard BoardError) �
     begun_prefix call values text out p b (stopped u how s g d) = absurd (not_stopped call u how values s g p)
     begun_prefix call values text out p b (given ws q u) = prefix_text call ws text out (subst (λ (xs : List Value). IsBegunBy call xs text) (one_values (texts_of call) values ws p q) b) u
 
-    pub prefix_of : (call : PlainCall) (text : List ℕ) (out : Output) → IsBegunFor call (Some files) text → IsOutputFor call (Some files) out → (rest : List ℕ) × (out.text ≡ text ++ rest)
+    prefix_of : (call : PlainCall) (text : List ℕ) (out : Output) → IsBegunFor call (Some files) text → IsOutputFor call (Some files) out → (rest : List ℕ) × (out.text ≡ text ++ rest)
     prefix_of call text out (whole other is e) k = ([], ap (λ (o : Output). o.text) (one_output_of call out other k is) ∙ (sym e ∙ sym (append-nil text)))
     prefix_of call text out (begun_by values p b) k = begun_prefix call values text out p b k
 
-  pub one_output : (call : PlainCall) (files : List (List ℕ × List ℕ)) (a b : Output) → IsOutputFor call (Some files) a → IsOutputFor call (Some files) b → a ≡ b
-  one_output call files a b p q = one_output_of files call a b p q
-
-  pub begun_is_prefix : (call : PlainCall) (files : List (List ℕ × List ℕ)) (text : List ℕ) (out : Output) → IsBegunFor call (Some files) text → IsOutputFor call (Some files) out → (rest : List ℕ) × (out.text ≡ text ++ rest)
-  begun_is_prefix call files text out b k = prefix_of files call text out b k
+  pub both_laws : ((call : PlainCall) (files : List (List ℕ × List ℕ)) (a b : Output) → IsOutputFor call (Some files) a → IsOutputFor call (Some files) b → a ≡ b)
+      × ((call : PlainCall) (files : List (List ℕ × List ℕ)) (text : List ℕ) (out : Output) → IsBegunFor call (Some files) text → IsOutputFor call (Some files) out → (rest : List ℕ) × (out.text ≡ text ++ rest))
+  both_laws = (λ call files a b p q. one_output_of files call a b p q, λ call files text out b k. prefix_of files call text out b k)

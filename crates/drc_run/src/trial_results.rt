@@ -117,9 +117,20 @@ fn trial_result_here<R: Threads + Sync + AllocGlobal, G: Gate>(
         command,
         gate,
     )?;
-    let trial_result = told_of(rt.alloc(), session, &come, gone)?;
-    turn_back(session, rt, trial_context.workers, back)?;
-    Ok(trial_result)
+    let trial_result = match told_of(rt.alloc(), session, &come, gone) {
+        Ok(trial_result) => trial_result,
+        Err(_) => {
+            drop(back);
+            return Err(TrialError::OutOfMemory);
+        }
+    };
+    match turn_back(session, rt, trial_context.workers, back) {
+        Ok(()) => Ok(trial_result),
+        Err(_) => {
+            drop(trial_result);
+            Err(TrialError::OutOfMemory)
+        }
+    }
 }
 
 /// What the command would do, found out on a copy.

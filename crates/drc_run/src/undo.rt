@@ -173,7 +173,9 @@ fn report<R: Threads + Sync + AllocGlobal, W: Sink, G: Gate>(
         Ok((session, applied)) => {
             let tiles = tiles_of(&applied);
             let mut history = History::begin(rt.alloc(), session);
-            go_through(rt, gate, &mut history, tiles, all, out)
+            let status = go_through(rt, gate, &mut history, tiles, all, out);
+            drop(history);
+            status
         }
         Err(_) => Status::OutOfMemory,
     }

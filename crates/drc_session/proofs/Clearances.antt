@@ -7,7 +7,7 @@ use Rattle.std.proofs.lemmas.Int.{ints}
 use Rattle.int_algebra.proofs.Order.{le_trans}
 use Rattle.int_algebra.proofs.Scalars.{clean, passed}
 use Rattle.plain_types.specs.Lengths.{IsLength}
-use Rattle.board_items.specs.declared.item.Item.{Item}
+use Rattle.one_item.specs.declared.item.Item.{Item}
 use Rattle.board_items.specs.Boards.{PlainBoard, item_at}
 use Rattle.board_index.proofs.OneList.{here, nothing, behind, cons_case}
 use Rattle.board_laws.specs.Edits.{IsEdit}

@@ -2,7 +2,7 @@
 use Rattle.std.proofs.Common.{◌≡◌, inl, inr, refl, sym, subst, ◌∙◌, ℕ, ℤ, List, [], get_or, Contains, Option, None, Some}
 use Rattle.std.proofs.lemmas.List.Elements.{All-contains, Contains-get_or}
 use Rattle.board_index.proofs.OneList.{nothing}
-use Rattle.board_items.specs.declared.item.Item.{Item}
+use Rattle.one_item.specs.declared.item.Item.{Item}
 use Rattle.board_items.specs.Boards.{PlainBoard, item_at}
 use Rattle.board_laws.specs.Edits.{WasOrIs}
 use Rattle.kept_facts.specs.FactUpdates.{mark_of, mark_at, mark_if}

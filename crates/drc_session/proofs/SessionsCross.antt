@@ -14,7 +14,7 @@ use Rattle.drc_io.proofs.name.Name.TheSendSync as name
 use Rattle.net_class.proofs.classes.Classes.TheSendSync as classes
 use Rattle.rule_pick.proofs.facts_by_id.FactsById.TheSendSync as facts
 use Rattle.pair_check.proofs.row.Row.TheSendSync as row
-use Rattle.kept_nets.proofs.part.NetPart.TheSendSync as part
+use Rattle.net_groups.proofs.part.NetPart.TheSendSync as part
 use Rattle.drc_session.specs.contracts.parts.Parts as Parts
 use Rattle.drc_session.specs.contracts.session.Session as Session
 use Rattle.drc_session.specs.contracts.session.Session.TheInside as Inside

@@ -101,7 +101,8 @@ impl Session {
             × IsDealt workers applied) }
         ensures refused { IfErr result (IsRefusedBy self.old self.new (plain_command command.now)) }
     {
-        let (applied, _back) = self.apply_kept(rt, workers, command, gate)?;
+        let (applied, back) = self.apply_kept(rt, workers, command, gate)?;
+        drop(back);
         Ok(applied)
     }
 

@@ -37,7 +37,8 @@ use board_items::{Board, Item, Nm};
 use box_index::{TileIndex, put_in_order};
 use geo_seg::Bounds;
 use kept_facts::{marks_before, update_facts};
-use kept_nets::{NetPart, update_parts};
+use kept_nets::update_parts;
+use net_groups::NetPart;
 use row_check::CheckView;
 use std::alloc::{AllocError, Global};
 use std::thread::Threads;
@@ -101,7 +102,8 @@ fn index_recomputed(
     if stays {
         return update_index(board, index, ids);
     }
-    *index = index_of(alloc, board, reach)?;
+    let anew = index_of(alloc, board, reach)?;
+    drop(std::mem::replace(index, anew));
     Ok(())
 }
 

@@ -18,7 +18,7 @@ mod session;
 
 pub use applied::Applied;
 pub use drc_state::{Change, EditError};
-pub use kept_nets::NetPart;
+pub use net_groups::NetPart;
 use plain_types::crosses_threads;
 pub use session::Session;
 

@@ -2,8 +2,8 @@
 
 use board_items::{Board, Nm};
 use box_index::TileIndex;
-use kept_nets::NetPart;
 use net_class::Classes;
+use net_groups::NetPart;
 use row_check::Row;
 use rule_pick::FactsById;
 use rule_text::Rules;

@@ -33,7 +33,8 @@ fn reach_recomputed(alloc: Global, parts: &mut Parts) -> Result<(), AllocError>
 {
     let reach = reach(&parts.board, &parts.classes, parts.rules.rules.as_slice());
     if reach != parts.reach {
-        parts.index = index_of(alloc, &parts.board, reach)?;
+        let index = index_of(alloc, &parts.board, reach)?;
+        drop(std::mem::replace(&mut parts.index, index));
         parts.reach = reach;
     }
     Ok(())
@@ -60,14 +61,26 @@ pub(crate) fn replace_rules<R: Threads + Sync, G: Gate>(
     ensures back { IfOk result (λ r. r.1 ≡ parts.old.rules) }
 {
     let before = std::mem::replace(&mut parts.rules, rules);
-    reach_recomputed(alloc, parts)?;
+    match reach_recomputed(alloc, parts) {
+        Ok(()) => {}
+        Err(error) => {
+            drop(before);
+            return Err(error);
+        }
+    }
     let view = CheckView {
         board: &parts.board,
         facts: &parts.facts,
         rules: parts.rules.rules.as_slice(),
         classes: &parts.classes,
     };
-    let (rows, applied) = check_all(rt, alloc, workers, view, &parts.index, gate)?;
+    let (rows, applied) = match check_all(rt, alloc, workers, view, &parts.index, gate) {
+        Ok(checked) => checked,
+        Err(error) => {
+            drop(before);
+            return Err(error);
+        }
+    };
     parts.rows = rows;
     Ok((applied, before))
 }

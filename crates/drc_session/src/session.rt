@@ -9,7 +9,7 @@ ghost use Rattle.drc_state.specs.States.{checked_in};
 
 use crate::parts::Parts;
 use board_items::Board;
-use kept_nets::NetPart;
+use net_groups::NetPart;
 use row_check::{CheckView, Row};
 use rule_text::Rules;
 use std::marker::Model;

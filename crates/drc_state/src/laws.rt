@@ -60,7 +60,7 @@ pub fn near_tiles()
         → AreRechecked old new false (dirty_of index boxes false) }
 {}
 
-/// Where the rules were replaced or the reach differs, those are all that hold an item.
+/// Where the rules were replaced or the reach differs, the tiles that are rechecked are all that hold an item.
 pub fn all_tiles()
     ensures { (old new : Checked) (index : PlainIndex) → IsIndexOf new index
         → (boxes : List Bounds) (replaced : Bool) → (replaced ≡ true) ⊎ ReachDiffers old new

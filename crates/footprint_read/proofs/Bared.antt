@@ -3,7 +3,7 @@ use Rattle.std.proofs.Common.{◌≡◌, refl, sym, subst, List, [], ◌∷◌, 
 use Rattle.std.proofs.lemmas.List.Elements.{All-nil, All-cons, All-append}
 use Rattle.geo_seg.specs.declared.points.Point.{Point}
 use Rattle.geo_seg.specs.declared.shapes.Core.{Core}
-use Rattle.board_items.specs.declared.parts.Part.{Part}
+use Rattle.one_item.specs.declared.parts.Part.{Part}
 use Rattle.part_read.specs.declared.placements.Placement.{Placement}
 use Rattle.part_read.specs.declared.radii.Radius.{Radius}
 use Rattle.part_read.specs.declared.figures.Drawing.{Drawing}

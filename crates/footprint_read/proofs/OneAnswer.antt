@@ -4,8 +4,8 @@ use Rattle.sexpr_read.specs.Tree.{Tree, parts}
 use Rattle.geo_seg.specs.declared.points.Point.{Point}
 use Rattle.geo_seg.specs.declared.points.Seg.{Seg}
 use Rattle.board_errors.specs.declared.errors.BoardError.{BoardError}
-use Rattle.board_items.specs.declared.parts.Part.{Part}
-use Rattle.board_items.specs.declared.item.Item.{Item}
+use Rattle.one_item.specs.declared.parts.Part.{Part}
+use Rattle.one_item.specs.declared.item.Item.{Item}
 use Rattle.board_items.specs.Boards.{PlainBoard}
 use Rattle.part_read.specs.declared.placements.Placement.{Placement}
 use Rattle.courtyard.specs.declared.ends.LineEnd.{LineEnd}

@@ -1,6 +1,6 @@
 -- Parts on no copper layer.
 use Rattle.std.specs.Prelude.{◌≡◌, List, All}
-use Rattle.board_items.specs.declared.parts.Part.{Part}
+use Rattle.one_item.specs.declared.parts.Part.{Part}
 
 -- none of the parts lies on a copper layer
 abbrev pub AreBare : List Part → Type 0

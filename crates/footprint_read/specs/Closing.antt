@@ -5,7 +5,7 @@ use Rattle.std.specs.BTreeMap.{BTreeMap}
 use Rattle.courtyard.specs.EndGroups.{place_cmp}
 use Rattle.footprint_read.specs.declared.closing.Count.{Count}
 use Rattle.footprint_read.specs.declared.closing.Count.TheVariants.{One, Two, Many}
-use Rattle.footprint_read.specs.declared.sides.Course.{Course}
+use Rattle.footprint_read.specs.declared.sides.RawSegment.{RawSegment}
 use Rattle.footprint_read.specs.Courtyards.{many_at}
 
 -- none, one, two, or too many
@@ -16,5 +16,5 @@ tally (suc (suc zero)) = Some Two
 tally (suc (suc (suc n))) = Some Many
 
 -- the map has the number of ends at each place
-pub record AreCounts (lines : List Course) (counts : BTreeMap (ℤ × ℤ) Count) : Type 0 where
+pub record AreCounts (lines : List RawSegment) (counts : BTreeMap (ℤ × ℤ) Count) : Type 0 where
   pub found : (k : ℤ × ℤ) → tree.get place_cmp counts k ≡ tally (many_at k lines)

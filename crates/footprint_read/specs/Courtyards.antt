@@ -8,7 +8,7 @@ use Rattle.geo_seg.specs.declared.points.Seg.{Seg}
 use Rattle.geo_seg.specs.declared.shapes.Core.TheVariants.{Area}
 use Rattle.board_errors.specs.declared.errors.BoardError.{BoardError}
 use Rattle.board_errors.specs.declared.errors.BoardError.TheVariants.{Missing}
-use Rattle.board_items.specs.declared.parts.Part.{Part}
+use Rattle.one_item.specs.declared.parts.Part.{Part}
 use Rattle.part_read.specs.declared.numbers.RawPoint.{RawPoint}
 use Rattle.part_read.specs.declared.placements.Placement.{Placement}
 use Rattle.part_read.specs.declared.drawings.GraphicKind.{GraphicKind}
@@ -29,7 +29,7 @@ use Rattle.part_read.specs.Drawings.{raw_points_among}
 use Rattle.pad_read.specs.PadOf.{all_drawn}
 use Rattle.courtyard.specs.Ends.{is_same}
 use Rattle.courtyard.specs.ClosedOutlines.{AreChained}
-use Rattle.footprint_read.specs.declared.sides.Course.{Course}
+use Rattle.footprint_read.specs.declared.sides.RawSegment.{RawSegment}
 use Rattle.footprint_read.specs.declared.sides.CourtSide.{CourtSide}
 use Rattle.footprint_read.specs.declared.courts.Court.{Court}
 use Rattle.footprint_read.specs.declared.courts.Court.TheVariants.{Unchecked, Parts, Off}
@@ -105,24 +105,24 @@ abbrev pub at : RawPoint → ℤ × ℤ
 at raw_point = (raw_point.x, raw_point.y)
 
 -- a line that has a length
-abbrev pub is_long : Course → Bool
+abbrev pub is_long : RawSegment → Bool
 is_long line = not (is_same (at line.a) (at line.b))
 
 -- how many ends of the line stand at a place: none where it has no length
-abbrev pub ends_at : ℤ × ℤ → Course → ℕ
+abbrev pub ends_at : ℤ × ℤ → RawSegment → ℕ
 ends_at k line = cond (is_long line) (cond (is_same (at line.a) k) 1 0 + cond (is_same (at line.b) k) 1 0) 0
 
 -- how many ends of the lines stand at a place
-abbrev pub many_at : ℤ × ℤ → List Course → ℕ
+abbrev pub many_at : ℤ × ℤ → List RawSegment → ℕ
 many_at k [] = 0
 many_at k (line ∷ lines) = ends_at k line + many_at k lines
 
 -- each end of the line, if it has a length, equals exactly one other end of the lines: with itself there are two at its place
-abbrev pub is_met : List Course → Course → Bool
+abbrev pub is_met : List RawSegment → RawSegment → Bool
 is_met lines line = not (is_long line) || (many_at (at line.a) lines == 2 && many_at (at line.b) lines == 2)
 
 -- no end is loose
-abbrev pub is_closed : List Course → Bool
+abbrev pub is_closed : List RawSegment → Bool
 is_closed lines = list_all (is_met lines) lines
 
 -- ---- the parts of a side
@@ -132,11 +132,11 @@ abbrev pub line_to : Point → Point → Seg
 line_to a b = record { a = a; b = b }
 
 -- the line, if it lies on the board
-abbrev pub seg_of : Course → Option Seg
+abbrev pub seg_of : RawSegment → Option Seg
 seg_of line = both line_to (tested (fits_board line.a) (point_at line.a)) (tested (fits_board line.b) (point_at line.b))
 
 -- the lines that have a length, if they all lie on the board
-abbrev pub segs_of : List Course → Option (List Seg)
+abbrev pub segs_of : List RawSegment → Option (List Seg)
 segs_of [] = Some []
 segs_of (line ∷ lines) = if is_long line then both (λ seg segs. seg ∷ segs) (seg_of line) (segs_of lines) else segs_of lines
 

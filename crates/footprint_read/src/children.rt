@@ -4,7 +4,7 @@
 ghost use Rattle.std.specs.Prelude.{◌≡◌, ◌<◌, ◌∷◌, [], ℕ, Ok, IfOk, OnOk, All};
 ghost use Rattle.sexpr_read.specs.TreeViews.{tree_of};
 ghost use Rattle.board_items.specs.Boards.{PlainBoard};
-ghost use Rattle.board_items.specs.declared.item.About.TheVariants.{FootZone};
+ghost use Rattle.one_item.specs.declared.item.About.TheVariants.{FootZone};
 ghost use Rattle.part_read.specs.ElementResults.{name_in};
 ghost use Rattle.part_read.specs.Graphics.{note_of};
 ghost use Rattle.part_read.specs.NodeResults.{Gives, Leaves};

@@ -8,7 +8,7 @@ ghost use Rattle.courtyard.specs.EndGroups.{place_cmp};
 ghost use Rattle.footprint_read.specs.Closing.{tally, AreCounts};
 ghost use Rattle.footprint_read.specs.Courtyards.{at, is_long, ends_at, many_at, is_met, is_closed};
 
-use crate::sides::Course;
+use crate::sides::RawSegment;
 use part_read::RawPoint;
 use std::alloc::{AllocError, Global};
 use std::collections::BTreeMap;
@@ -29,7 +29,7 @@ fn key_of(raw_point: RawPoint) -> (i64, i64)
 }
 
 /// Whether the line has a length.
-pub(crate) fn is_long(line: Course) -> bool
+pub(crate) fn is_long(line: RawSegment) -> bool
     ensures { result ≡ is_long line }
 {
     !(line.a.x == line.b.x && line.a.y == line.b.y)
@@ -58,7 +58,7 @@ fn enter(counts: &mut BTreeMap<(i64, i64), Count>, raw_point: RawPoint) -> Resul
 }
 
 /// Enters both ends of a line that has a length.
-fn enter_line(counts: &mut BTreeMap<(i64, i64), Count>, line: Course) -> Result<(), AllocError>
+fn enter_line(counts: &mut BTreeMap<(i64, i64), Count>, line: RawSegment) -> Result<(), AllocError>
     ensures { OnOk result ((k : ℤ × ℤ) (n : ℕ) → tree.get place_cmp counts.old k ≡ tally n
         → tree.get place_cmp counts.new k ≡ tally (n + ends_at k line)) }
 {
@@ -70,7 +70,7 @@ fn enter_line(counts: &mut BTreeMap<(i64, i64), Count>, line: Course) -> Result<
 }
 
 /// The ends of all lines that have a length.
-fn counts_of(alloc: Global, lines: &[Course]) -> Result<BTreeMap<(i64, i64), Count>, AllocError>
+fn counts_of(alloc: Global, lines: &[RawSegment]) -> Result<BTreeMap<(i64, i64), Count>, AllocError>
     ensures { IfOk result (AreCounts lines.now) }
 {
     let mut counts = BTreeMap::new(alloc);
@@ -81,7 +81,7 @@ fn counts_of(alloc: Global, lines: &[Course]) -> Result<BTreeMap<(i64, i64), Cou
 }
 
 /// Whether exactly two ends stand at a raw point.
-fn has_two(lines: &[Course], counts: &BTreeMap<(i64, i64), Count>, raw_point: RawPoint) -> bool
+fn has_two(lines: &[RawSegment], counts: &BTreeMap<(i64, i64), Count>, raw_point: RawPoint) -> bool
     requires { AreCounts lines.now counts.now }
     ensures { result ≡ many_at (at raw_point) lines.now == 2 }
 {
@@ -97,7 +97,7 @@ fn is_two(found: Option<Count>) -> bool
 }
 
 /// Whether each end of the line equals exactly one other.
-fn is_met(lines: &[Course], counts: &BTreeMap<(i64, i64), Count>, line: Course) -> bool
+fn is_met(lines: &[RawSegment], counts: &BTreeMap<(i64, i64), Count>, line: RawSegment) -> bool
     requires { AreCounts lines.now counts.now }
     ensures { result ≡ is_met lines.now line }
 {
@@ -105,7 +105,7 @@ fn is_met(lines: &[Course], counts: &BTreeMap<(i64, i64), Count>, line: Course) 
 }
 
 /// Whether each end of each line equals exactly one other.
-fn all_met(lines: &[Course], counts: &BTreeMap<(i64, i64), Count>) -> bool
+fn all_met(lines: &[RawSegment], counts: &BTreeMap<(i64, i64), Count>) -> bool
     requires { AreCounts lines.now counts.now }
     ensures { result ≡ is_closed lines.now }
 {
@@ -119,7 +119,7 @@ fn all_met(lines: &[Course], counts: &BTreeMap<(i64, i64), Count>) -> bool
 
 /// Whether no end of the lines is loose: each equals exactly one other. Lines of no length are
 /// passed over.
-pub(crate) fn is_closed(alloc: Global, lines: &[Course]) -> Result<bool, AllocError>
+pub(crate) fn is_closed(alloc: Global, lines: &[RawSegment]) -> Result<bool, AllocError>
     ensures { IfOk result (λ closed. closed ≡ is_closed lines.now) }
 {
     let counts = counts_of(alloc, lines)?;

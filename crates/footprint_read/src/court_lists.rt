@@ -13,7 +13,7 @@ ghost use Rattle.part_read.specs.Figures.{HasReach};
 ghost use Rattle.footprint_read.specs.Courtyards.{empty_side, side_then, figure_side, line_side, rect_side, circle_side, has_arc, outline_side, graphic_side};
 ghost use Rattle.footprint_read.specs.Appending.{onto_side};
 
-use crate::sides::{Course, CourtSide};
+use crate::sides::{CourtSide, RawSegment};
 use board_items::BoardError;
 use list_read::{element, has_head};
 use part_read::{
@@ -49,11 +49,11 @@ fn add_figure(side: &mut CourtSide, figure: Figure) -> Result<(), AllocError>
 }
 
 /// Adds a line that was read.
-fn add_course(side: &mut CourtSide, course: Course) -> Result<(), AllocError>
+fn add_segment(side: &mut CourtSide, segment: RawSegment) -> Result<(), AllocError>
     ensures { OnOk result
-        (side.new ≡ side_then side.old (record empty_side { lines = course ∷ [] })) }
+        (side.new ≡ side_then side.old (record empty_side { lines = segment ∷ [] })) }
 {
-    side.lines.push(course)
+    side.lines.push(segment)
 }
 
 /// Adds a line, which goes from one raw point of the board to another.
@@ -70,11 +70,11 @@ fn add_line(
 {
     let start = raw_point_needed(node, b"start")?;
     let end = raw_point_needed(node, b"end")?;
-    let course = Course {
+    let segment = RawSegment {
         a: stand(placement, start),
         b: stand(placement, end),
     };
-    Ok(add_course(side, course)?)
+    Ok(add_segment(side, segment)?)
 }
 
 /// Adds a rectangle.

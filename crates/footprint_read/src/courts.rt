@@ -8,7 +8,7 @@ ghost use Rattle.footprint_read.specs.Bare.{AreBare};
 ghost use Rattle.footprint_read.specs.Courtyards.{seg_of, segs_of, figure_parts, outline_part, parts_in, IsCourt};
 
 use crate::closing::{is_closed, is_long};
-use crate::sides::{Course, CourtSide};
+use crate::sides::{CourtSide, RawSegment};
 use board_items::{Part, Parts};
 use copper_layers::LayerSet;
 use courtyard::closed_outlines;
@@ -31,7 +31,7 @@ pub enum Court {
 // ---- lines
 
 /// The line, unless an end lies off the board.
-fn seg_of(line: Course) -> Option<Seg>
+fn seg_of(line: RawSegment) -> Option<Seg>
     ensures { result ≡ seg_of line }
 {
     let Some(a) = point_at(line.a) else {
@@ -44,7 +44,7 @@ fn seg_of(line: Course) -> Option<Seg>
 }
 
 /// The lines that have a length, unless one of them leaves the board.
-fn segs_of(alloc: Global, lines: &[Course]) -> Result<Option<Vec<Seg>>, AllocError>
+fn segs_of(alloc: Global, lines: &[RawSegment]) -> Result<Option<Vec<Seg>>, AllocError>
     ensures { IfOk result (λ segs. option_map (λ found. found.items) segs ≡ segs_of lines.now) }
 {
     let mut segs = Vec::new(alloc);

@@ -3,7 +3,7 @@
 ghost use Rattle.std.specs.Prelude.{◌≡◌, ℕ, List, Result};
 ghost use Rattle.sexpr_read.specs.Tree.{Tree};
 ghost use Rattle.board_errors.specs.declared.errors.BoardError.{BoardError};
-ghost use Rattle.board_items.specs.declared.item.Item.{Item};
+ghost use Rattle.one_item.specs.declared.item.Item.{Item};
 ghost use Rattle.board_items.specs.Boards.{PlainBoard};
 ghost use Rattle.footprint_read.specs.FootprintOf.{FootprintSays};
 

@@ -8,9 +8,9 @@ use part_read::{Drawing, RawPoint};
 use std::alloc::{AllocError, Global};
 use std::marker::Model;
 
-/// A line from one raw point of the board to another, on the board or off it.
+/// A line of a courtyard from one point to another, as they are read: on the board or off it.
 #[derive(Clone, Copy, Debug, PartialEq, Eq, Drop)]
-pub struct Course {
+pub struct RawSegment {
     pub a: RawPoint,
     pub b: RawPoint,
 }
@@ -63,39 +63,39 @@ impl Drawings {
 
 /// Lines. Contracts see the list.
 #[derive(Drop)]
-pub struct Courses {
-    list: Vec<Course>,
+pub struct RawSegments {
+    list: Vec<RawSegment>,
 }
 
-impl Model for Courses {
+impl Model for RawSegments {
     ghost use Rattle.std.specs.Prelude.{List};
-    ghost use Rattle.footprint_read.specs.declared.sides.Course.{Course};
+    ghost use Rattle.footprint_read.specs.declared.sides.RawSegment.{RawSegment};
 
-    ghost Value = { List Course };
+    ghost Value = { List RawSegment };
 
     ghost view = { λ c. c.list.items };
 }
 
-impl Courses {
+impl RawSegments {
     /// No line.
-    pub(crate) fn new(alloc: Global) -> Courses
+    pub(crate) fn new(alloc: Global) -> RawSegments
         ensures { result ≡ [] }
     {
-        Courses {
+        RawSegments {
             list: Vec::new(alloc),
         }
     }
 
     /// Puts a line behind the others.
-    pub(crate) fn push(&mut self, course: Course) -> Result<(), AllocError>
-        ensures { OnOk result (self.new ≡ self.old ++ course ∷ []) }
+    pub(crate) fn push(&mut self, segment: RawSegment) -> Result<(), AllocError>
+        ensures { OnOk result (self.new ≡ self.old ++ segment ∷ []) }
     {
-        self.list.push(course)?;
+        self.list.push(segment)?;
         Ok(())
     }
 
     /// The lines in their order.
-    pub(crate) fn as_slice(&self) -> &[Course]
+    pub(crate) fn as_slice(&self) -> &[RawSegment]
         ensures { result.now ≡ self.now }
     {
         &self.list
@@ -108,7 +108,7 @@ pub struct CourtSide {
     /// It has a curve.
     pub curved: bool,
     pub drawings: Drawings,
-    pub lines: Courses,
+    pub lines: RawSegments,
 }
 
 impl CourtSide {
@@ -122,7 +122,7 @@ impl CourtSide {
         CourtSide {
             curved: false,
             drawings: Drawings::new(alloc),
-            lines: Courses::new(alloc),
+            lines: RawSegments::new(alloc),
         }
     }
 

@@ -1,7 +1,8 @@
 -- Lists of which a test chooses some.
-use Rattle.std.proofs.Common.{◌≡◌, ℕ, zero, suc, ◌+◌, ◌<◌, ◌≤◌, Bool, true, false, cond, List, [], ◌∷◌, length, get_or, IsTrue, All, Contains, refl, sym, subst, arith}
+use Rattle.std.proofs.Common.{◌≡◌, ◌↔◌, ℕ, zero, suc, ◌+◌, ◌<◌, ◌≤◌, Bool, true, false, cond, List, [], ◌∷◌, length, get_or, IsTrue, All, Contains, refl, sym, subst, arith}
 use Rattle.std.specs.List.{Any, AllWithin, filter}
 use Rattle.std.proofs.lemmas.List.Elements.{All-nil, All-cons, All-head, All-tail, AllWithin-more, AllWithin-upto, All-from_all_within, at_read}
+use Rattle.geo_seg.proofs.Choices.{surely, surely_not}
 
 -- what holds of each that is chosen
 pub chosen_from : {X : Type 0} (Q : X → Type 0) (test : X → Bool) (xs : List X) → All (λ x. IsTrue (test x) → Q x) xs → All Q (filter test xs)
@@ -45,6 +46,13 @@ none_chosen P test xs i last a some =
     none some.0 some.1 some.2 (subst P (sym some.3) some.4)
 
 -- one more of the first ones
+-- a walk over them: it stops at one for which P holds, or comes to the end without one
+pub surely_chosen : {X : Type 0} (P : X → Type 0) (test : X → Bool) (xs : List X) (i : ℕ) (x : X) → i < length xs → x ≡ get_or xs i x → IsTrue (test x) → P x → (IsTrue true ↔ Any P (filter test xs))
+surely_chosen P test xs i x lt e chosen p = surely true refl (some_chosen P test xs i x lt e chosen p)
+
+pub surely_none_chosen : {X : Type 0} (P : X → Type 0) (test : X → Bool) (xs : List X) (i : ℕ) → length xs ≤ i → AllWithin (λ x. IsTrue (test x) → ¬ (P x)) xs 0 i → (IsTrue false ↔ Any P (filter test xs))
+surely_none_chosen P test xs i last a = surely_not false refl (none_chosen P test xs i last a)
+
 pub one_more : {X : Type 0} (P : X → Type 0) (xs : List X) (i : ℕ) (x : X) → i < length xs → x ≡ get_or xs i x → P x → AllWithin P xs 0 i → AllWithin P xs 0 (i + 1)
 one_more P xs i x lt e p a = AllWithin-more P xs 0 i a (at_read xs P i x lt e p)
 

@@ -8,8 +8,8 @@ use Rattle.geo_seg.specs.Boxes.{widened, are_near, IsClearOf, AreClear, IsPartOf
 use Rattle.geo_seg.specs.Cores.{IsPointOf}
 use Rattle.geo_seg.specs.Distances.{Apart, Meet}
 use Rattle.geo_seg.proofs.BoxLemmas.{clear_apart, clear_not_within}
-use Rattle.board_items.specs.declared.parts.Part.{Part}
-use Rattle.board_items.specs.Extents.{LiesIn, AllLieIn}
+use Rattle.one_item.specs.declared.parts.Part.{Part}
+use Rattle.one_item.specs.Extents.{LiesIn, AllLieIn}
 use Rattle.item_copper.proofs.ItemBoxes.{le_unless}
 
 -- the two keep the distance v, and do not meet

@@ -1,19 +1,17 @@
 -- The gap of lists, part by part: the least of the gaps of the parts.
-use Rattle.std.proofs.Common.{◌≡◌, ◌⊎◌, ℕ, zero, suc, ◌+◌, ◌<◌, ◌≤◌, ℤ, pos, negsuc, ◌*ℤ◌, ◌≤ℤ◌, Bool, true, false, cond, List, [], ◌∷◌, ◌++◌, length, get_or, take, All, inl, inr, sym, ap, subst, ◌∙◌, arith}
+use Rattle.std.proofs.Common.{◌≡◌, ◌⊎◌, ℕ, ◌+◌, ◌<◌, ◌≤◌, ℤ, pos, ◌*ℤ◌, ◌≤ℤ◌, Bool, true, false, cond, List, [], ◌∷◌, ◌++◌, length, get_or, take, All, inl, inr, refl, sym, ap, subst, ◌∙◌, arith}
 use Rattle.std.proofs.lemmas.Int.{ints}
 use Rattle.std.specs.List.{filter}
 use Rattle.std.proofs.lemmas.List.Elements.{All-nil, All-cons, All-head, All-tail, All-push, All-weaker, filter_more}
 use Rattle.std.proofs.lemmas.List.{take_all, append-nil}
 use Rattle.geo_seg.specs.declared.shapes.Shape.{Shape}
 use Rattle.geo_seg.specs.Distances.{Apart, IsGap}
+use Rattle.geo_seg.proofs.GapLemmas.{int_cases, gap_same, gap_passed}
 use Rattle.geo_shape.proofs.Numbers.{apart_at_less, double_le, double_from}
-use Rattle.board_items.specs.declared.parts.Part.{Part}
-use Rattle.board_items.specs.CopperPairs.{Keeps}
-
-pub int_cases : (g : ℤ) → (pos 1 ≤ℤ g) ⊎ (g ≤ℤ pos 0)
-int_cases (pos zero) = inr (omega (arith, ints))
-int_cases (pos (suc n)) = inl (omega (arith, ints))
-int_cases (negsuc n) = inr (omega (arith, ints))
+use Rattle.plain_types.specs.Lengths.{IsLength}
+use Rattle.int_algebra.proofs.Scalars.{passed, passed_length}
+use Rattle.one_item.specs.declared.parts.Part.{Part}
+use Rattle.one_item.specs.CopperPairs.{Keeps}
 
 -- a gap stays where what is kept says the same
 pub gap_as : (K L : ℤ → Type 0) (v gap : ℤ) → ((g : ℤ) → K g → L g) → ((g : ℤ) → pos 1 ≤ℤ g → L g → K g) → IsGap K v gap → IsGap L v gap
@@ -23,8 +21,12 @@ gap_as K L v gap to from is = record { from = is.from; to = is.to; kept = kept i
     kept (inl e) = inl e
     kept (inr h) = inr (to gap h)
 
-pub gap_same : {K : ℤ → Type 0} {v w gap h : ℤ} → v ≡ w → gap ≡ h → IsGap K v gap → IsGap K w h
-gap_same {K} {v} {w} {gap} {h} e f is = subst (λ (z : ℤ). IsGap K z h) e (subst (λ (z : ℤ). IsGap K v z) f is)
+-- a length and a gap that were passed from call to call
+pub passed_gap : (K : ℤ → Type 0) (most gap : ℤ) → IsLength most → IsGap K (passed most) gap → IsGap K most (passed gap)
+passed_gap K most gap range is = gap_passed most gap (record { from = range.from; to = omega (arith, ints, range.to) }) is
+
+pub length_below : {K : ℤ → Type 0} (most gap : ℤ) → IsLength most → IsGap K (passed most) gap → IsLength gap
+length_below most gap range is = record { from = is.from; to = omega (arith, ints, is.to, range.to, range.from) }
 
 All-front : {X : Type 0} (P : X → Type 0) (xs : List X) (x : X) → All P (xs ++ x ∷ []) → All P xs
 All-front P [] x a = All-nil P
@@ -73,24 +75,28 @@ module _ {X : Type 0} (K : X → ℤ → Type 0) (test : X → Bool) (xs : List 
   abbrev pub KeepBelow : ℕ → ℤ → Type 0
   KeepBelow n g = All (λ x. K x g) (filter test (take n xs))
 
-  pub gap_start : (most : ℤ) → pos 0 ≤ℤ most → IsGap (KeepBelow 0) most most
-  gap_start most h = record { from = h; to = omega (arith, ints); kept = inr (All-nil (λ x. K x most)); greatest = λ g least to k. to }
+  pub gap_start : (most : ℤ) → IsLength most → IsGap (KeepBelow 0) (passed most) (passed most)
+  gap_start most range = record { from = omega (arith, ints, range.from, range.to); to = omega (arith, ints); kept = inr (All-nil (λ x. K x (passed most))); greatest = λ g least to k. to }
 
-  pub gap_end : (n : ℕ) (most gap : ℤ) → length xs ≤ n → IsGap (KeepBelow n) most gap → IsGap (λ g. All (λ x. K x g) (filter test xs)) most gap
-  gap_end n most gap last is = subst (λ (ys : List X). IsGap (λ g. All (λ x. K x g) (filter test ys)) most gap) (take_all n xs last) is
+  pub gap_end : (n : ℕ) (most gap : ℤ) → IsLength most → length xs ≤ n → IsGap (KeepBelow n) (passed most) gap → IsGap (λ g. All (λ x. K x g) (filter test xs)) most gap
+  gap_end n most gap range last is =
+      subst (λ (ys : List X). IsGap (λ g. All (λ x. K x g) (filter test ys)) most gap) (take_all n xs last) (gap_same (passed_length most range.from range.to) refl is)
 
   grown : (i : ℕ) (x : X) (b : Bool) → i < length xs → x ≡ get_or xs i x → test x ≡ b → filter test (take (i + 1) xs) ≡ filter test (take i xs) ++ cond b (x ∷ []) []
   grown i x b lt e t = filter_more test xs i x lt ∙ ap (λ y. filter test (take i xs) ++ cond (test y) (y ∷ []) []) (sym e) ∙ ap (λ r. filter test (take i xs) ++ cond r (x ∷ []) []) t
 
   -- one more that is not chosen
-  pub gap_skip : (i : ℕ) (x : X) (most gap : ℤ) → i < length xs → x ≡ get_or xs i x → test x ≡ false → IsGap (KeepBelow i) most gap → IsGap (KeepBelow (i + 1)) most gap
-  gap_skip i x most gap lt e no_test is =
-      subst (λ (ys : List X). IsGap (λ g. All (λ y. K y g) ys) most gap) (sym (grown i x false lt e no_test ∙ append-nil (filter test (take i xs)))) is
+  pub gap_skip : (i : ℕ) (x : X) (most low now : ℤ) → i < length xs → x ≡ get_or xs i x → test x ≡ false → IsGap (KeepBelow i) most low → now ≡ low → IsGap (KeepBelow (i + 1)) most now
+  gap_skip i x most low now lt e no_test is told =
+      gap_same refl (sym told)
+      (subst (λ (ys : List X). IsGap (λ g. All (λ y. K y g) ys) most low) (sym (grown i x false lt e no_test ∙ append-nil (filter test (take i xs)))) is)
 
   -- one more that is chosen
-  pub gap_more : IsFalling K → (i : ℕ) (x : X) (most low gap : ℤ) → i < length xs → x ≡ get_or xs i x → test x ≡ true → IsGap (KeepBelow i) most low → IsGap (K x) low gap → IsGap (KeepBelow (i + 1)) most gap
-  gap_more falls i x most low gap lt e chosen is own =
-      subst (λ (ys : List X). IsGap (λ g. All (λ y. K y g) ys) most gap) (sym (grown i x true lt e chosen)) (gap_both falls (filter test (take i xs)) x most low gap is own)
+  pub gap_more : IsFalling K → (i : ℕ) (x : X) (most low gap now : ℤ) → i < length xs → x ≡ get_or xs i x → test x ≡ true → IsLength most → IsGap (KeepBelow i) (passed most) low → IsGap (K x) low gap → now ≡ passed gap
+      → IsGap (KeepBelow (i + 1)) (passed most) now
+  gap_more falls i x most low gap now lt e chosen range is own told =
+      gap_same refl (sym (told ∙ passed_length gap own.from (omega (arith, ints, own.to, is.to, range.to, range.from))))
+      (subst (λ (ys : List X). IsGap (λ g. All (λ y. K y g) ys) (passed most) gap) (sym (grown i x true lt e chosen)) (gap_both falls (filter test (take i xs)) x (passed most) low gap is own))
 
 -- ---- parts
 -- what is apart at a distance is apart at a lesser one

@@ -8,11 +8,11 @@ use Rattle.geo_seg.specs.Boxes.{widened, AreClear, IsPartOf}
 use Rattle.geo_seg.specs.Cores.{IsPointOf, IsBoundsOf}
 use Rattle.geo_seg.proofs.BoxLemmas.{clear_not_within}
 use Rattle.geo_seg.specs.Distances.{Meet}
-use Rattle.board_items.specs.declared.parts.Part.{Part}
-use Rattle.board_items.specs.declared.item.Item.{Item}
-use Rattle.board_items.specs.ItemParts.{parts_of, hole_parts, kind_parts}
-use Rattle.board_items.specs.Extents.{LiesIn, AllLieIn, AreBoundsOf}
-use Rattle.board_items.specs.CopperPairs.{CopperMeets}
+use Rattle.one_item.specs.declared.parts.Part.{Part}
+use Rattle.one_item.specs.declared.item.Item.{Item}
+use Rattle.one_item.specs.ItemParts.{parts_of, hole_parts, kind_parts}
+use Rattle.one_item.specs.Extents.{LiesIn, AllLieIn, AreBoundsOf}
+use Rattle.one_item.specs.CopperPairs.{CopperMeets}
 use Rattle.geo_seg.specs.Boxes.{BoxesMeet}
 use Rattle.item_copper.proofs.Meeting.{MeetsSome, copper_to}
 

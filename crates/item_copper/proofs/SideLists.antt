@@ -3,8 +3,8 @@ use Rattle.std.proofs.Common.{◌≡◌, ◌↔◌, ℕ, ◌<◌, ◌≤◌, ℤ
 use Rattle.std.specs.List.{Any, AllWithin, filter}
 use Rattle.std.proofs.lemmas.List.Elements.{All-nil, All-cons, All-head, All-tail, AllWithin-upto, All-from_all_within}
 use Rattle.geo_seg.specs.Distances.{Meet, IsGap}
-use Rattle.board_items.specs.declared.parts.Part.{Part}
-use Rattle.board_items.specs.CopperPairs.{SomeMeet}
+use Rattle.one_item.specs.declared.parts.Part.{Part}
+use Rattle.one_item.specs.CopperPairs.{SomeMeet}
 use Rattle.item_copper.specs.declared.side.SomeParts.{SomeParts}
 use Rattle.item_copper.specs.declared.side.SomeParts.TheVariants.{Listed, Single}
 use Rattle.item_copper.specs.declared.side.ListedParts.{ListedParts}

@@ -6,8 +6,8 @@ use Rattle.geo_seg.specs.declared.shapes.Shape.{Shape}
 use Rattle.geo_seg.specs.Points.{RationalPoint}
 use Rattle.geo_seg.specs.Nearer.{squared_gap, squared_limit, IsAtMost}
 use Rattle.geo_seg.specs.Distances.{Meet}
-use Rattle.board_items.specs.declared.item.Item.{Item}
-use Rattle.board_items.specs.CopperPairs.{CopperMeets}
+use Rattle.one_item.specs.declared.item.Item.{Item}
+use Rattle.one_item.specs.CopperPairs.{CopperMeets}
 
 gap_sym : (p q : RationalPoint) → squared_gap p q ≡ squared_gap q p
 gap_sym p q =

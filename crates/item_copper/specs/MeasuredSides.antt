@@ -1,8 +1,8 @@
 -- A side: some parts of an item, which face some parts of another.
 use Rattle.std.specs.Prelude.{ℕ, Bool, true, List, [], ◌∷◌, Option, None, Some}
-use Rattle.board_items.specs.declared.parts.Part.{Part}
+use Rattle.one_item.specs.declared.parts.Part.{Part}
 use Rattle.copper_layers.specs.Layers.{has_layer}
-use Rattle.board_items.specs.CopperPairs.{on_layer}
+use Rattle.one_item.specs.CopperPairs.{on_layer}
 use Rattle.item_copper.specs.declared.side.SomeParts.{SomeParts}
 use Rattle.item_copper.specs.declared.side.SomeParts.TheVariants.{Nothing, Listed, Single}
 

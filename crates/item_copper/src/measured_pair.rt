@@ -4,7 +4,7 @@ ghost use Rattle.std.specs.Prelude.{◌≡◌, ℤ, ◌*ℤ◌, pos, All, IsTrue
 ghost use Rattle.std.specs.List.{Any};
 ghost use Rattle.plain_types.specs.Lengths.{IsLength};
 ghost use Rattle.geo_seg.specs.Distances.{Apart, Meet, IsGap};
-ghost use Rattle.board_items.specs.CopperPairs.{SomeMeet, Keeps};
+ghost use Rattle.one_item.specs.CopperPairs.{SomeMeet, Keeps};
 ghost use Rattle.item_copper.specs.MeasuredSides.{is_taken, parts_at};
 
 use crate::side::{ListedParts, SomeParts};

@@ -2,7 +2,7 @@
 
 ghost use Rattle.std.specs.Prelude.{IsTrue, ◌↔◌};
 ghost use Rattle.std.specs.List.{Any};
-ghost use Rattle.board_items.specs.CopperPairs.{PartsMeet, CopperMeets};
+ghost use Rattle.one_item.specs.CopperPairs.{PartsMeet, CopperMeets};
 
 use crate::layers::share_layer;
 use board_items::{Item, Part};

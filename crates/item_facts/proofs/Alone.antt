@@ -1,7 +1,7 @@
 -- Facts depend on what is near alone.
 use Rattle.std.proofs.Common.{◌≡◌, ◌⊎◌, ◌∙◌, refl, sym, ap, subst, inl, inr, ℕ, suc, Bool, true, false, cond, List, [], ◌∷◌, filter, Contains, unwrap_or, arith}
-use Rattle.board_items.specs.declared.item.Item.{Item}
-use Rattle.board_items.specs.declared.item.What.{What}
+use Rattle.one_item.specs.declared.item.Item.{Item}
+use Rattle.one_item.specs.declared.item.What.{What}
 use Rattle.board_items.specs.Boards.{PlainBoard, name_of}
 use Rattle.net_class.specs.NetClasses.{PlainClasses}
 use Rattle.rule_pick.specs.declared.facts.Facts.{Facts}

@@ -3,15 +3,15 @@ use Rattle.std.proofs.Common.{◌≡◌, ◌≢◌, inl, inr, refl, sym, subst, 
 use Rattle.std.specs.List.{Any}
 use Rattle.std.proofs.lemmas.List.Elements.{Contains-append_left, Contains-append_right}
 use Rattle.geo_seg.specs.Distances.{Meet}
-use Rattle.board_items.specs.declared.parts.Part.{Part}
-use Rattle.board_items.specs.declared.item.Hole.{Hole}
-use Rattle.board_items.specs.declared.item.What.{What}
-use Rattle.board_items.specs.declared.item.What.TheVariants as what
-use Rattle.board_items.specs.declared.item.Item.{Item}
-use Rattle.board_items.specs.Boards.{is_mark}
+use Rattle.one_item.specs.declared.parts.Part.{Part}
+use Rattle.one_item.specs.declared.item.Hole.{Hole}
+use Rattle.one_item.specs.declared.item.What.{What}
+use Rattle.one_item.specs.declared.item.What.TheVariants as what
+use Rattle.one_item.specs.declared.item.Item.{Item}
+use Rattle.one_item.specs.ItemKinds.{is_mark}
 use Rattle.copper_layers.specs.Layers.{has_layer}
-use Rattle.board_items.specs.CopperPairs.{PartsMeet, on_layer}
-use Rattle.board_items.specs.ItemParts.{parts_of, hole_parts, kind_parts}
+use Rattle.one_item.specs.CopperPairs.{PartsMeet, on_layer}
+use Rattle.one_item.specs.ItemParts.{parts_of, hole_parts, kind_parts}
 use Rattle.item_copper.proofs.Meeting.{any_of_chosen}
 use Rattle.item_copper.proofs.ItemBoxes.{parts_meet}
 use Rattle.item_facts.specs.NearItems.{MayMeetItem}

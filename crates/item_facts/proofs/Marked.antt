@@ -3,11 +3,12 @@ use Rattle.std.proofs.Common.{◌≡◌, ◌≢◌, refl, sym, ap, subst, ◌∙
 use Rattle.std.specs.List.{filter}
 use Rattle.std.proofs.lemmas.Bool.{cases_order, cases_eq, lt-ltb}
 use Rattle.std.proofs.lemmas.List.Elements.{Contains-append_left, Contains-append_right, Contains-append_cases, All-contains, All-contains_itself, All-filter, All-weaker}
-use Rattle.board_items.specs.declared.parts.Part.{Part}
-use Rattle.board_items.specs.declared.item.Item.{Item}
-use Rattle.board_items.specs.Boards.{Rise, item_at, is_mark, marks_of}
-use Rattle.board_items.specs.ItemParts.{parts_of}
-use Rattle.board_items.specs.Extents.{AreBoundsOf}
+use Rattle.one_item.specs.declared.parts.Part.{Part}
+use Rattle.one_item.specs.declared.item.Item.{Item}
+use Rattle.one_item.specs.ItemKinds.{is_mark}
+use Rattle.board_items.specs.Boards.{Rise, item_at, marks_of}
+use Rattle.one_item.specs.ItemParts.{parts_of}
+use Rattle.one_item.specs.Extents.{AreBoundsOf}
 use Rattle.box_index.specs.declared.entry.Entry.{Entry}
 use Rattle.box_index.specs.Tiles.{PlainIndex, IsAbsent, placed}
 use Rattle.box_index.proofs.Buckets.{contains_filter}

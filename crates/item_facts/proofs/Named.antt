@@ -3,8 +3,8 @@ use Rattle.std.proofs.Common.{refl, sym, subst, inl, inr, ℕ, List, [], ◌∷�
 use Rattle.std.specs.Option.{option_copied}
 use Rattle.std.proofs.lemmas.List.{append_assoc, append-nil}
 use denote.Ref.{Bor}
-use Rattle.board_items.specs.declared.item.Item.{Item}
-use Rattle.board_items.specs.declared.item.What.{What}
+use Rattle.one_item.specs.declared.item.Item.{Item}
+use Rattle.one_item.specs.declared.item.What.{What}
 use Rattle.rule_pick.specs.FactsOf.{AreNamesOf}
 use Rattle.item_facts.specs.FoundNames.{ArePrefix, name_if}
 

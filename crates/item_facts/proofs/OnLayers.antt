@@ -6,13 +6,13 @@ use Rattle.std.proofs.Math.ListN.{drop_of_length-le}
 use Rattle.std.proofs.lemmas.Bool.{cases_eq}
 use Rattle.std.proofs.lemmas.Nat.Bits.{bit_at-zero, bit_at-pow_same, bit_at-pow_other}
 use Rattle.copper_layers.specs.declared.set.LayerSet.{LayerSet}
-use Rattle.board_items.specs.declared.parts.Part.{Part}
+use Rattle.one_item.specs.declared.parts.Part.{Part}
 use Rattle.copper_layers.specs.Layers.{has_layer, single_layer}
 use Rattle.item_copper.proofs.Meeting.{any_here, any_later, any_none, any_cases}
-use Rattle.board_items.specs.declared.item.Bans.{Bans}
-use Rattle.board_items.specs.declared.item.What.{What}
-use Rattle.board_items.specs.declared.item.What.TheVariants as what
-use Rattle.board_items.specs.declared.item.Item.{Item}
+use Rattle.one_item.specs.declared.item.Bans.{Bans}
+use Rattle.one_item.specs.declared.item.What.{What}
+use Rattle.one_item.specs.declared.item.What.TheVariants as what
+use Rattle.one_item.specs.declared.item.Item.{Item}
 use Rattle.rule_pick.specs.FactsOf.{SomeOn, LiesOn, AreLayersOf}
 
 plus-one : (n : ℕ) → suc n ≡ n + 1

@@ -3,8 +3,8 @@ use Rattle.std.proofs.Common.{◌≡◌, ◌≢◌, refl, sym, ap, subst, ◌∙
 use Rattle.std.proofs.Math.Seq.{drop-cons}
 use Rattle.std.proofs.Math.ListN.{drop_of_length-le}
 use Rattle.std.proofs.lemmas.Bool.{cases_order}
-use Rattle.board_items.specs.declared.item.Item.{Item}
-use Rattle.board_items.specs.declared.item.What.{What}
+use Rattle.one_item.specs.declared.item.Item.{Item}
+use Rattle.one_item.specs.declared.item.What.{What}
 use Rattle.board_items.specs.Boards.{Rise, item_at}
 use Rattle.rule_pick.specs.FactsOf.{AreNamesOf}
 use Rattle.item_facts.specs.NearItems.{DoRise, entry_if, picked}

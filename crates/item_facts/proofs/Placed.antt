@@ -2,15 +2,15 @@
 use Rattle.std.proofs.Common.{◌≡◌, inl, inr, refl, sym, ℕ, Bool, true, false, cond, List, [], ◌∷◌, length, IsTrue, ◌↔◌, ◌⊎◌, Option, Some, subst, arith}
 use Rattle.std.specs.List.{Any, filter}
 use Rattle.geo_seg.specs.Distances.{Meet}
-use Rattle.board_items.specs.declared.parts.Part.{Part}
-use Rattle.board_items.specs.declared.item.Hole.{Hole}
+use Rattle.one_item.specs.declared.parts.Part.{Part}
+use Rattle.one_item.specs.declared.item.Hole.{Hole}
 use Rattle.copper_layers.specs.Layers.{has_layer}
-use Rattle.board_items.specs.CopperPairs.{PartsMeet, SomeMeet, on_layer}
-use Rattle.board_items.specs.ItemParts.{hole_parts}
+use Rattle.one_item.specs.CopperPairs.{PartsMeet, SomeMeet, on_layer}
+use Rattle.one_item.specs.ItemParts.{hole_parts}
 use Rattle.item_copper.proofs.Meeting.{any_here, any_none, any_cases}
-use Rattle.board_items.specs.declared.item.What.{What}
-use Rattle.board_items.specs.declared.item.What.TheVariants as what
-use Rattle.board_items.specs.declared.item.Item.{Item}
+use Rattle.one_item.specs.declared.item.What.{What}
+use Rattle.one_item.specs.declared.item.What.TheVariants as what
+use Rattle.one_item.specs.declared.item.Item.{Item}
 use Rattle.rule_pick.specs.FactsOf.{placed_parts, parts_asked, MeetsOn, MeetsPart, MeetsEither, MeetsCourtyard}
 
 pub without_copper : (copper : List Part) (hole : Option Hole) → length copper ≡ 0 → hole_parts hole ≡ placed_parts copper hole

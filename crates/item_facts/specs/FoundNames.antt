@@ -1,7 +1,7 @@
 -- Names that were found so far.
 use Rattle.std.specs.Prelude.{ℕ, List, [], ◌∷◌, ◌++◌, Option, None, Some}
-use Rattle.board_items.specs.declared.item.Item.{Item}
-use Rattle.board_items.specs.declared.item.What.{What}
+use Rattle.one_item.specs.declared.item.Item.{Item}
+use Rattle.one_item.specs.declared.item.What.{What}
 use Rattle.rule_pick.specs.FactsOf.{AreNamesOf}
 
 abbrev pub name_if : Option (List ℕ) → List (List ℕ)

@@ -2,7 +2,7 @@
 use Rattle.std.specs.Prelude.{◌≡◌, ◌⊎◌, ℕ, List, Option, Some, IsSome, nat_eq}
 use Rattle.indexmap.specs.IndexMap.{IndexMap, get}
 use denote.Ref.{Bor}
-use Rattle.board_items.specs.declared.item.Item.{Item}
+use Rattle.one_item.specs.declared.item.Item.{Item}
 use Rattle.board_items.specs.Boards.{PlainBoard, IsRising, item_at}
 use Rattle.net_class.specs.declared.lengths.Class.{Class}
 use Rattle.net_class.specs.NetClasses.{PlainClasses}

@@ -2,10 +2,11 @@
 use Rattle.std.specs.Prelude.{◌≡◌, ◌≢◌, ℕ, ◌+◌, ◌≤◌, ◌⊎◌, Bool, true, false, List, [], ◌∷◌, filter, Contains, Option, None, Some}
 use Rattle.geo_seg.specs.declared.boxes.Bounds.{Bounds}
 use Rattle.geo_seg.specs.Boxes.{BoxesMeet}
-use Rattle.board_items.specs.declared.item.Item.{Item}
-use Rattle.board_items.specs.Boards.{item_at, is_mark}
-use Rattle.board_items.specs.ItemParts.{parts_of}
-use Rattle.board_items.specs.Extents.{AreBoundsOf}
+use Rattle.one_item.specs.declared.item.Item.{Item}
+use Rattle.one_item.specs.ItemKinds.{is_mark}
+use Rattle.board_items.specs.Boards.{item_at}
+use Rattle.one_item.specs.ItemParts.{parts_of}
+use Rattle.one_item.specs.Extents.{AreBoundsOf}
 use Rattle.box_index.specs.declared.entry.Entry.{Entry}
 use Rattle.box_index.specs.Tiles.{PlainIndex}
 use Rattle.rule_pick.specs.FactsOf.{MeetsArea, MeetsCourtyard}

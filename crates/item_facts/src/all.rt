@@ -28,7 +28,7 @@ const FEW_TESTS: usize = 8_192;
 
 /// The class of a net, sought once for each net: patterns are dear. Only running out of memory refuses it; also then each net in `known`
 /// has its class.
-pub fn known_class<'c>(
+pub(crate) fn known_class<'c>(
     known: &mut IndexMap<u32, &'c Class>,
     board: &Board,
     classes: &'c Classes,
@@ -50,7 +50,7 @@ pub fn known_class<'c>(
 /// The facts of an item of this class, where the ids are enough to ask for the areas and bodies that it meets. Only running out of memory
 /// refuses it.
 #[inline(always)]
-pub fn facts_among(
+pub(crate) fn facts_among(
     alloc: Global,
     board: &Board,
     class: &Class,

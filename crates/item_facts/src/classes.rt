@@ -9,7 +9,7 @@ use net_class::{Class, Classes};
 
 /// The class of a net, sought by its name. It takes no memory.
 #[tactic(auto, unfolding(rule_pick::specs::FactsOf::class_of_net))]
-pub fn class_of_net<'c>(board: &Board, classes: &'c Classes, net: u32) -> &'c Class
+pub(crate) fn class_of_net<'c>(board: &Board, classes: &'c Classes, net: u32) -> &'c Class
     ensures { plain_class result.now ≡ class_of_net classes.now board.now net }
 {
     if net == 0 {

@@ -1,7 +1,7 @@
 //! Laws of facts. The functions do nothing: each clause holds for all values.
 
 ghost use Rattle.std.specs.Prelude.{◌≡◌, ◌⊎◌, ℕ, Bool, List};
-ghost use Rattle.board_items.specs.declared.item.Item.{Item};
+ghost use Rattle.one_item.specs.declared.item.Item.{Item};
 ghost use Rattle.board_items.specs.Boards.{PlainBoard};
 ghost use Rattle.net_class.specs.NetClasses.{PlainClasses};
 ghost use Rattle.rule_pick.specs.declared.facts.Facts.{Facts};

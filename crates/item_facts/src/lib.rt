@@ -16,10 +16,8 @@ mod near;
 mod of_item;
 mod threads;
 
-pub use all::{all_facts, facts, facts_among, facts_near, known_class};
-pub use classes::class_of_net;
+pub use all::{all_facts, facts, facts_near};
 pub use equality::same;
 pub use meets::{area_met, courtyard_met};
-pub use near::{index_marks, marks_near};
 pub use rule_pick::reach;
 pub use threads::all_facts_by;

@@ -3,8 +3,8 @@
 ghost use Rattle.std.specs.Prelude.{◌<◌, ℕ, List, IsTrue, ◌↔◌, MatchOption};
 ghost use Rattle.std.specs.List.{Any};
 ghost use Rattle.geo_seg.specs.Distances.{Meet};
-ghost use Rattle.board_items.specs.ItemParts.{hole_parts};
-ghost use Rattle.board_items.specs.CopperPairs.{PartsMeet, SomeMeet, on_layer};
+ghost use Rattle.one_item.specs.ItemParts.{hole_parts};
+ghost use Rattle.one_item.specs.CopperPairs.{PartsMeet, SomeMeet, on_layer};
 ghost use Rattle.rule_pick.specs.FactsOf.{MeetsOn, MeetsPart, MeetsArea, MeetsEither, MeetsCourtyard, placed_parts};
 
 use board_items::{Hole, Item, Part, What};

@@ -2,9 +2,10 @@
 
 ghost use Rattle.std.specs.Prelude.{◌≡◌, [], filter, IfOk, OnOk, IfSome};
 ghost use Rattle.geo_seg.specs.Boxes.{FitsIndex};
-ghost use Rattle.board_items.specs.Boards.{IsSound, is_mark, marks_of};
-ghost use Rattle.board_items.specs.ItemParts.{parts_of};
-ghost use Rattle.board_items.specs.Extents.{AreBoundsOf};
+ghost use Rattle.one_item.specs.ItemKinds.{is_mark};
+ghost use Rattle.board_items.specs.Boards.{IsSound, marks_of};
+ghost use Rattle.one_item.specs.ItemParts.{parts_of};
+ghost use Rattle.one_item.specs.Extents.{AreBoundsOf};
 ghost use Rattle.box_index.specs.Tiles.{IsAbsent};
 ghost use Rattle.item_facts.specs.NearItems.{is_mark_of, HoldsMarks, IsMarked, AreEnough};
 
@@ -42,7 +43,7 @@ fn put_mark(index: &mut TileIndex, id: u32, item: &Item) -> Result<(), AllocErro
 }
 
 /// An index of the areas and bodies of the board, by their bounds. Only running out of memory refuses it.
-pub fn index_marks(alloc: Global, board: &Board) -> Result<TileIndex, AllocError>
+pub(crate) fn index_marks(alloc: Global, board: &Board) -> Result<TileIndex, AllocError>
     ensures { IfOk result (λ index. HoldsMarks board.now.items index) }
 {
     let mut index = TileIndex::new(alloc, 0)?;
@@ -103,7 +104,7 @@ fn push_marks(board: &Board, ids: &mut Vec<u32>) -> Result<(), AllocError>
 ///
 /// The index has all areas and bodies of the board, and may have other items. What `ids` had before is let go first. Only running out of
 /// memory refuses it, and `ids` is then of no use.
-pub fn marks_near(
+pub(crate) fn marks_near(
     board: &Board,
     index: &TileIndex,
     item: &Item,

@@ -1,7 +1,7 @@
 //! The facts of all items, found side by side.
 
 ghost use Rattle.std.specs.Prelude.{◌≡◌, ◌<◌, true, ℕ, length, Some, IsSome, IfOk, IfSome};
-ghost use Rattle.board_items.specs.declared.item.Item.{Item as PlainItem};
+ghost use Rattle.one_item.specs.declared.item.Item.{Item as PlainItem};
 ghost use Rattle.board_items.specs.Boards.{item_at};
 ghost use Rattle.net_class.specs.ClassValues.{plain_class};
 ghost use Rattle.rule_pick.specs.AllFacts.{HasFacts};

@@ -1,8 +1,8 @@
 -- Names of two lists of items by id, in which each id gives the same.
 use Rattle.std.proofs.Common.{◌≡◌, ◌⊎◌, inl, inr, refl, sym, ap, subst, ℕ, zero, suc, ◌<◌, List, [], ◌∷◌, Contains, arith}
 use Rattle.std.specs.List.{AllPairs}
-use Rattle.board_items.specs.declared.item.Item.{Item}
-use Rattle.board_items.specs.declared.item.What.{What}
+use Rattle.one_item.specs.declared.item.Item.{Item}
+use Rattle.one_item.specs.declared.item.What.{What}
 use Rattle.board_laws.proofs.Rest.{Entry, Under}
 use Rattle.rule_pick.specs.FactsOf.{AreNamesOf}
 

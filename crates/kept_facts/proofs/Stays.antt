@@ -1,9 +1,10 @@
 -- What an edit leaves of the facts of an item that it does not concern.
 use Rattle.std.proofs.Common.{◌≡◌, ◌⊎◌, ◌↔◌, inl, inr, refl, sym, ap, subst, ◌∙◌, ℕ, Bool, true, false, cond, List, [], Contains, Option, None, Some, unwrap_or, true≢false}
 use Rattle.std.specs.List.{AllPairs}
-use Rattle.board_items.specs.declared.item.Item.{Item}
-use Rattle.board_items.specs.declared.item.What.{What}
-use Rattle.board_items.specs.Boards.{PlainBoard, item_at, is_mark, name_of}
+use Rattle.one_item.specs.declared.item.Item.{Item}
+use Rattle.one_item.specs.declared.item.What.{What}
+use Rattle.one_item.specs.ItemKinds.{is_mark}
+use Rattle.board_items.specs.Boards.{PlainBoard, item_at, name_of}
 use Rattle.board_laws.specs.Edits.{IsEdit, is_one_of}
 use Rattle.board_laws.proofs.Rest.{Under, rises, found_at, in_list, one_of, is_there}
 use Rattle.net_class.specs.NetClasses.{PlainClasses}

@@ -1,7 +1,7 @@
 -- Items that an edit may concern, as an index finds them, and facts that are found again one after the other.
 use Rattle.std.specs.Prelude.{◌≡◌, ◌≢◌, ◌⊎◌, ℕ, ◌<◌, Bool, true, false, List, length, get_or, Option, None, Some, Contains}
 use Rattle.std.specs.List.Sorted.{IsStrictlyIncreasing}
-use Rattle.board_items.specs.declared.item.Item.{Item}
+use Rattle.one_item.specs.declared.item.Item.{Item}
 use Rattle.board_items.specs.Boards.{PlainBoard, item_at}
 use Rattle.box_index.specs.Tiles.{PlainIndex}
 use Rattle.board_index.specs.IndexedItems.{HasEntry}

@@ -2,9 +2,10 @@
 use Rattle.std.specs.Prelude.{◌≡◌, ◌≢◌, ◌⊎◌, ◌↔◌, ℕ, ◌<◌, cond, List, length, get_or, slice_get, Contains, Option, None, Some, IsSome}
 use Rattle.std.specs.Option.{option_flatten}
 use Rattle.std.specs.List.Sorted.{IsStrictlyIncreasing}
-use Rattle.board_items.specs.declared.item.Item.{Item}
-use Rattle.board_items.specs.declared.item.What.{What}
-use Rattle.board_items.specs.Boards.{PlainBoard, item_at, is_mark}
+use Rattle.one_item.specs.declared.item.Item.{Item}
+use Rattle.one_item.specs.declared.item.What.{What}
+use Rattle.one_item.specs.ItemKinds.{is_mark}
+use Rattle.board_items.specs.Boards.{PlainBoard, item_at}
 use Rattle.net_class.specs.NetClasses.{PlainClasses}
 use Rattle.cond_lang.specs.Rules.{PlainRule}
 use Rattle.rule_pick.specs.declared.facts.Facts.{Facts}

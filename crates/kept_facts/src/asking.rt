@@ -3,10 +3,10 @@
 ghost use Rattle.std.specs.Prelude.{◌≡◌, ◌↔◌, IsTrue, Some, OnOk, IfOk, IfSome};
 ghost use Rattle.std.specs.Option.{option_copied};
 ghost use Rattle.geo_seg.specs.Boxes.{FitsIndex};
-ghost use Rattle.board_items.specs.declared.item.Item.{Item};
+ghost use Rattle.one_item.specs.declared.item.Item.{Item};
 ghost use Rattle.board_items.specs.Boards.{item_at};
-ghost use Rattle.board_items.specs.ItemParts.{parts_of};
-ghost use Rattle.board_items.specs.Extents.{AreBoundsOf};
+ghost use Rattle.one_item.specs.ItemParts.{parts_of};
+ghost use Rattle.one_item.specs.Extents.{AreBoundsOf};
 ghost use Rattle.board_index.specs.IndexedItems.{HoldsItems};
 ghost use Rattle.kept_facts.specs.FactUpdates.{GiveSame};
 ghost use Rattle.kept_facts.specs.ConcernedItems.{HasNear, HasOthers, HasConcerned, AreAsked};

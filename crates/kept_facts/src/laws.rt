@@ -1,7 +1,7 @@
 //! Laws of facts that are kept. The functions do nothing: each clause holds for all boards and facts.
 
 ghost use Rattle.std.specs.Prelude.{ℕ, List, Option};
-ghost use Rattle.board_items.specs.declared.item.Item.{Item};
+ghost use Rattle.one_item.specs.declared.item.Item.{Item};
 ghost use Rattle.board_items.specs.Boards.{PlainBoard};
 ghost use Rattle.net_class.specs.NetClasses.{PlainClasses};
 ghost use Rattle.rule_pick.specs.declared.facts.Facts.{Facts};
@@ -26,7 +26,7 @@ pub fn facts_are_kept()
         → HasFacts new classes now }
 {}
 
-/// And what is not noted did not change.
+/// After an edit, what is checked of an item that is not noted as changed did not change.
 pub fn is_step()
     ensures { (old : Checked) (new : PlainBoard) (ids suspects : List ℕ)
         (kept now : List (Option Facts))

@@ -2,7 +2,7 @@
 
 ghost use Rattle.std.specs.Prelude.{◌≡◌, map, IsTrue, ◌↔◌, IfOk};
 ghost use Rattle.std.specs.Option.{option_copied};
-ghost use Rattle.board_items.specs.Boards.{is_mark};
+ghost use Rattle.one_item.specs.ItemKinds.{is_mark};
 ghost use Rattle.rule_pick.specs.FactsOf.{MeetsArea, MeetsCourtyard};
 ghost use Rattle.kept_facts.specs.FactUpdates.{mark_at, mark_of, GivesIf, GiveSame, AreMarksBefore};
 ghost use Rattle.kept_facts.specs.ConcernedItems.{IsNameIf};

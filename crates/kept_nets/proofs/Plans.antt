@@ -6,9 +6,10 @@ use Rattle.std.proofs.lemmas.List.Elements.{All-contains, All-push, All-weaker, 
 use Rattle.board_items.specs.Boards.{PlainBoard}
 use Rattle.board_laws.specs.Edits.{is_one_of}
 use Rattle.net_groups.specs.NetParts.{PlainNetPart}
-use Rattle.kept_nets.specs.declared.works.Work.{Work}
+use Rattle.net_groups.specs.declared.works.Work.{Work}
 use Rattle.net_groups.specs.NetParts.{IsNetPart}
-use Rattle.kept_nets.specs.Works.{IsDue, AreAt, AreWorksUpTo, AreFound, IsPlan}
+use Rattle.net_groups.specs.Works.{AreFound}
+use Rattle.kept_nets.specs.NetPlans.{IsDue, AreAt, AreWorksUpTo, IsPlan}
 
 eq_or : (m k : ℕ) → (m ≡ k) ⊎ (m ≢ k)
 eq_or m k = grind arith

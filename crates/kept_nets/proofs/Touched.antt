@@ -2,7 +2,7 @@
 use Rattle.std.proofs.Common.{◌≡◌, refl, sym, ap, subst, ◌∙◌, ℕ, suc, zero, ◌<◌, Bool, true, false, nat_eq, List, [], ◌∷◌, length, get_or, map, Contains, arith, true≢false}
 use Rattle.std.specs.List.{AllZip}
 use Rattle.std.proofs.lemmas.Bool.{eqb-true}
-use Rattle.board_items.specs.declared.item.Item.{Item}
+use Rattle.one_item.specs.declared.item.Item.{Item}
 use Rattle.board_items.specs.Boards.{PlainBoard}
 use Rattle.board_laws.specs.Edits.{is_one_of}
 use Rattle.board_laws.proofs.Rest.{is_there}
@@ -11,10 +11,10 @@ use Rattle.net_groups.specs.NetGroups.{is_of_net}
 use Rattle.board_laws.specs.Edits.{IsEdit, WasOrIs}
 use Rattle.net_groups.specs.NetParts.{IsNetPart, AreParts, real_nets}
 use Rattle.kept_nets.specs.TouchedNets.{AreTouched}
-use Rattle.kept_nets.specs.Works.{AreAt}
+use Rattle.kept_nets.specs.NetPlans.{AreAt}
 use Rattle.net_groups.proofs.Parts.{part_stays}
 use Rattle.kept_nets.proofs.Stays.{net_stays}
-use Rattle.kept_nets.proofs.Gathered.{zip_of}
+use Rattle.net_groups.proofs.Gathered.{zip_of}
 
 -- the numbers of parts
 abbrev pub numbers : List PlainNetPart → List ℕ

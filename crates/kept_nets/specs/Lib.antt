@@ -1,2 +1,2 @@
 pub mod TouchedNets
-pub mod Works
+pub mod NetPlans

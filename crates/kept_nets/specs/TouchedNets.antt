@@ -1,6 +1,6 @@
 -- The nets that an edit touches.
 use Rattle.std.specs.Prelude.{ℕ, List, Contains}
-use Rattle.board_items.specs.declared.item.Item.{Item}
+use Rattle.one_item.specs.declared.item.Item.{Item}
 use Rattle.board_items.specs.Boards.{PlainBoard}
 use Rattle.board_laws.specs.Edits.{WasOrIs}
 

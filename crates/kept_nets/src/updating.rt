@@ -8,11 +8,11 @@ ghost use Rattle.board_laws.specs.Edits.{is_one_of};
 ghost use Rattle.net_groups.specs.NetParts.{PlainNetPart, IsNetPart, AreParts};
 ghost use Rattle.board_laws.specs.Edits.{IsEdit};
 ghost use Rattle.kept_nets.specs.TouchedNets.{AreTouched};
-ghost use Rattle.kept_nets.specs.Works.{AreWorksUpTo, IsPlan};
+ghost use Rattle.kept_nets.specs.NetPlans.{AreWorksUpTo, IsPlan};
 
-use crate::part::NetPart;
-use crate::works::{Work, find_parts};
 use board_items::Board;
+use net_groups::NetPart;
+use net_groups::works::{Work, find_parts};
 use std::alloc::{AllocError, Global};
 use std::thread::Threads;
 

@@ -1,10 +1,9 @@
 -- The rows after a change are those that it left, and those of what is tested again.
-use Rattle.std.proofs.Common.{◌≡◌, ◌⊎◌, ℕ, List, [], ◌++◌, None, Some, Bool, true, false, not, ◌||◌, get_or, inl, inr, refl, sym, subst, ap, ◌∙◌, arith, true≢false}
+use Rattle.std.proofs.Common.{◌≡◌, ◌⊎◌, ℕ, List, ◌++◌, Bool, true, false, not, ◌||◌, get_or, inl, inr, refl, sym, subst, ap, ◌∙◌, arith, true≢false}
 use Rattle.std.specs.List.{Contains, filter}
 use Rattle.std.specs.List.Sorted.{IsPermutation}
 use Rattle.std.proofs.lemmas.List.Elements.{All-filter, filter_passes}
 use Rattle.std.proofs.lemmas.List.Kept.{AllPairs-filter}
-use Rattle.board_items.specs.declared.item.Item.{Item}
 use Rattle.box_index.specs.Tiles.{PlainIndex, IsSoundIndex}
 use Rattle.box_index.proofs.Buckets.{contains_filter}
 use Rattle.pair_check.specs.PlainRow.{PlainRow}
@@ -12,9 +11,8 @@ use Rattle.pair_check.specs.Pairs.{Breaks}
 use Rattle.pair_check.specs.Singles.{BreaksAlone}
 use Rattle.pair_check.specs.Rows.{Checked, IsRow, IsRowOfOne, AreRows, Before}
 use Rattle.row_check.specs.RowsOfTile.{IsIndexOf, is_changed}
-use Rattle.row_check.specs.Whole.{ids_of, StandApart, AreOnceWhere, AreInOrder, AreEnough, AreSingles, IsOfTiles}
-use Rattle.row_check.proofs.RowLists.{no_rows}
-use Rattle.row_check.proofs.WholeRows.{asked, id_of_found, once_append}
+use Rattle.row_check.specs.Whole.{StandApart, AreOnceWhere, AreInOrder, AreEnough, AreSingles, IsOfTiles}
+use Rattle.row_check.proofs.WholeRows.{asked, once_append}
 use Rattle.row_check.proofs.Sorting.{apart_or_same, Same, once_from_rows, once_permutation, rows_from_once}
 use Rattle.row_check.proofs.TileRows.{changed_in, in_changed}
 use Rattle.kept_rows.specs.CheckChanges.{IsCheckChange, is_touched}
@@ -169,26 +167,3 @@ module _ (old new : Checked) (index : PlainIndex) (sound : IsSoundIndex index) (
   pub rows_updated : (rows singles pairs after : List PlainRow) → AreRows old rows → AreSingles new changed singles → AreOnceWhere (IsOfTiles new index tiles changed) pairs
       → IsPermutation ((filter (λ row. not (is_touched changed row)) rows ++ singles) ++ pairs) after → AreInOrder after → AreRows new after
   rows_updated rows singles pairs after r s p same order = rows_from_once (IsRow new) after order (once_permutation (IsRow new) ((filter (λ row. not (is_touched changed row)) rows ++ singles) ++ pairs) after same (updated rows singles pairs r s p))
-
--- ---- everything again
-
--- the same without items
-abbrev pub emptied : Checked → Checked
-emptied c = record c { board = record c.board { items = [] } }
-
-missing : (item : Item) → None ≡ Some item → ⊥
-missing item e = cc
-
-pub from_nothing : (c : Checked) (ids : List ℕ) → ids ≡ ids_of c.board → IsCheckChange (emptied c) c ids
-from_nothing c ids e = record {
-  same = refl;
-  stays = λ id out item facts s. absurd (missing item s.item_is);
-  stayed = λ id out item facts s. absurd (out (subst (λ xs. Contains xs id) (sym e) (id_of_found c.board.items id item s.item_is)));
-}
-
-pub nothing_before : (c : Checked) → AreRows (emptied c) []
-nothing_before c = no_rows (IsRow (emptied c)) none
-  where
-    none : (row : PlainRow) → IsRow (emptied c) row → ⊥
-    none row (inl two) = missing two.pair.a two.first.item_is
-    none row (inr one) = missing one.item one.first.item_is

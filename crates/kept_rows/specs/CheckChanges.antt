@@ -1,7 +1,7 @@
 -- A change of what is checked, and which rows it touches.
 use Rattle.std.specs.Prelude.{◌≡◌, ℕ, Bool, ◌||◌, not, List, ◌++◌, filter, Contains}
 use Rattle.std.specs.List.Sorted.{IsPermutation}
-use Rattle.board_items.specs.declared.item.Item.{Item}
+use Rattle.one_item.specs.declared.item.Item.{Item}
 use Rattle.rule_pick.specs.declared.facts.Facts.{Facts}
 use Rattle.box_index.specs.Tiles.{PlainIndex}
 use Rattle.pair_check.specs.PlainRow.{PlainRow}

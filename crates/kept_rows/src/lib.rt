@@ -4,4 +4,4 @@
 pub mod laws;
 mod updating;
 
-pub use updating::{all_rows, update_rows};
+pub use updating::update_rows;

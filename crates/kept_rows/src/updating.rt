@@ -1,18 +1,17 @@
 //! Rows after a change.
 
-ghost use Rattle.std.specs.Prelude.{◌≡◌, ◌++◌, List, OnOk, IfOk, filter, not};
-ghost use Rattle.std.specs.List.{AllZip, flat_map};
+ghost use Rattle.std.specs.Prelude.{◌≡◌, OnOk, filter, not};
+ghost use Rattle.std.specs.List.{AllZip};
 ghost use Rattle.std.specs.List.Sorted.{IsStrictlyIncreasing};
-ghost use Rattle.pair_check.specs.PlainRow.{PlainRow};
 ghost use Rattle.pair_check.specs.Rows.{Checked, AreRows};
 ghost use Rattle.pair_check.specs.CheckViews.{checked_by, IsWholeView};
 ghost use Rattle.row_check.specs.RowsOfTile.{IsIndexOf, AreRowsOfTile};
-ghost use Rattle.row_check.specs.Whole.{AreEnough, ids_of};
+ghost use Rattle.row_check.specs.Whole.{AreEnough};
 ghost use Rattle.kept_rows.specs.CheckChanges.{IsCheckChange, is_touched};
 
 use box_index::TileIndex;
 use row_check::order::put_in_order;
-use row_check::{CheckView, Row, TileRows, is_changed, push_singles, soundness};
+use row_check::{CheckView, Row, TileRows, is_changed, push_batches, push_singles, soundness};
 use std::alloc::{AllocError, Global};
 
 /// Whether one of the items of the row changed.
@@ -31,26 +30,11 @@ fn keep_untouched(rows: &mut Vec<Row>, changed: &[u32])
     rows.retain(|row| !is_touched(changed, row));
 }
 
-/// Appends the rows of each batch.
-fn push_batches(rows: &mut Vec<Row>, batches: &[TileRows]) -> Result<(), AllocError>
-    ensures { OnOk result
-        (rows.new.items ≡ rows.old.items ++ flat_map
-        (λ (batch : List PlainRow). batch) batches.now) }
-{
-    for batch in batches {
-        // most tiles have no rows
-        if !batch.as_slice().is_empty() {
-            rows.extend_from_slice(batch.as_slice())?;
-        }
-    }
-    Ok(())
-}
-
 /// Makes the rows of what was checked before a change those of what is checked now.
 ///
 /// `changed` are the ids, rising, of all that changed. `_tiles` are all tiles that hold an entry that changed, and the batches are
-/// their rows with such an entry. The tiles tell the contract alone which rows these are. Only want of memory fails it, and the rows
-/// are then of no use.
+/// their rows with such an entry. The tiles tell the contract alone which rows these are. Only running out of memory fails it, and
+/// the rows are then of no use.
 pub fn update_rows(
     alloc: Global,
     view: &CheckView,
@@ -76,28 +60,4 @@ pub fn update_rows(
     push_batches(rows, batches)?;
     put_in_order(rows)?;
     Ok(())
-}
-
-/// The rows of all that is checked. `ids` are those of all items, and the batches are the rows of all tiles that hold an entry.
-pub fn all_rows(
-    alloc: Global,
-    view: &CheckView,
-    index: &TileIndex,
-    ids: &[u32],
-    tiles: &[u32],
-    batches: &[TileRows],
-) -> Result<Vec<Row>, AllocError>
-    requires view { IsWholeView view.now }
-    requires index { IsIndexOf (checked_by view.now) index.now }
-    requires ids { ids.now ≡ ids_of (checked_by view.now).board }
-    requires rise { IsStrictlyIncreasing ids.now }
-    requires enough { AreEnough index.now ids.now tiles.now }
-    requires batches { AllZip
-        (λ tile batch. AreRowsOfTile (checked_by view.now) index.now tile ids.now batch) tiles.now
-        batches.now }
-    ensures { IfOk result (λ rows. AreRows (checked_by view.now) rows.items) }
-{
-    let mut rows = Vec::new(alloc);
-    update_rows(alloc, view, index, &mut rows, ids, tiles, batches)?;
-    Ok(rows)
 }

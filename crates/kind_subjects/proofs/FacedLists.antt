@@ -1,9 +1,9 @@
--- One facing and two, as lists.
+-- One measured pair and two, as lists.
 use Rattle.std.proofs.Common.{◌⊎◌, ◌↔◌, ℤ, pos, ◌*ℤ◌, ◌≤ℤ◌, Bool, IsTrue, [], ◌∷◌, All, inl, inr, arith}
 use Rattle.std.proofs.lemmas.Int.{ints}
 use Rattle.std.proofs.lemmas.List.Elements.{All-weaker}
 use Rattle.geo_seg.specs.Distances.{Apart, IsGap}
-use Rattle.board_items.specs.CopperPairs.{SomeMeet, Keeps}
+use Rattle.one_item.specs.CopperPairs.{SomeMeet, Keeps}
 use Rattle.item_copper.proofs.Meeting.{any_here, any_later, any_cases}
 use Rattle.item_copper.proofs.Gaps.{IsFalling, part_falls, gap_both}
 use Rattle.item_copper.proofs.SideLists.{of_any, any_one, gap_of_one}

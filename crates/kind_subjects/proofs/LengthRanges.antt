@@ -3,9 +3,9 @@ use Rattle.std.proofs.Common.{◌≡◌, sym, ap, ℤ, pos, negsuc, neg_ℤ, ◌
 use Rattle.std.proofs.lemmas.Int.{ints}
 use mir.Syntax.{w64}
 use Rattle.plain_types.specs.Lengths.{IsLength, IsLengthIfSome}
-use Rattle.board_items.specs.declared.item.Hole.{Hole}
-use Rattle.board_items.specs.declared.item.What.{What}
-use Rattle.board_items.specs.declared.item.What.TheVariants.{Via}
+use Rattle.one_item.specs.declared.item.Hole.{Hole}
+use Rattle.one_item.specs.declared.item.What.{What}
+use Rattle.one_item.specs.declared.item.What.TheVariants.{Via}
 use Rattle.int_algebra.proofs.Scalars.{passed}
 use Rattle.kind_subjects.specs.LimitedLengths.{IsNearZero, ring_of}
 

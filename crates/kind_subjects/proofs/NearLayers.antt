@@ -2,17 +2,15 @@
 use Rattle.std.proofs.Common.{◌≡◌, ◌⊎◌, inl, inr, refl, sym, subst, ◌∙◌, ℤ, pos, ◌+ℤ◌, ◌*ℤ◌, ◌≤ℤ◌, ◌<ℤ◌, true, List, [], slice_index_or, All, arith}
 use Rattle.std.specs.List.{Any}
 use Rattle.std.proofs.lemmas.Int.{ints}
-use Rattle.plain_types.specs.Lengths.{IsLength}
-use Rattle.int_algebra.proofs.Scalars.{passed, passed_length}
-use Rattle.item_copper.proofs.Gaps.{gap_same}
+pub use Rattle.item_copper.proofs.Gaps.{passed_gap}
 use Rattle.geo_seg.specs.declared.shapes.Shape.{Shape}
 use Rattle.geo_seg.specs.Cores.{IsPointOf}
 use Rattle.geo_seg.specs.Distances.{Apart, Meet, IsGap}
 use Rattle.geo_seg.proofs.Distances.{apart_not_within}
 use Rattle.copper_layers.specs.declared.set.LayerSet.{LayerSet}
-use Rattle.board_items.specs.declared.parts.Part.{Part}
-use Rattle.board_items.specs.declared.item.Item.{Item}
-use Rattle.board_items.specs.CopperPairs.{SomeMeet, Keeps}
+use Rattle.one_item.specs.declared.parts.Part.{Part}
+use Rattle.one_item.specs.declared.item.Item.{Item}
+use Rattle.one_item.specs.CopperPairs.{SomeMeet, Keeps}
 use Rattle.cond_lang.specs.declared.kind.Kind.{Kind}
 use Rattle.cond_lang.specs.declared.kind.Kind.TheVariants.{Short, Clearance}
 use Rattle.kind_subjects.specs.declared.subject.OperandKinds.{OperandKinds}
@@ -155,12 +153,3 @@ kept_unmet kind layer a b v h keep m =
 pub short_as_clearance : (layer : RowLayer) (a b : Item) → MeetAt Short layer a b → MeetAt Clearance layer a b
 unfolding measured_pairs
 short_as_clearance layer a b m = m
-
--- ---- a gap that was passed
-
-pub passed_gap : (K : ℤ → Type 0) (v gap : ℤ) → IsLength v → IsGap K (passed v) gap → IsGap K v (passed gap)
-passed_gap K v gap range is =
-    let clean : IsGap K v gap = gap_same (passed_length v range.from range.to) refl is in
-    let from = clean.from in
-    let to = clean.to in
-    let most = range.to in gap_same refl (sym (passed_length gap from (omega (arith, ints, to, most)))) clean

@@ -2,10 +2,10 @@
 use Rattle.std.proofs.Common.{◌≡◌, ◌⊎◌, inl, inr, refl, sym, ap, subst, ℕ, ◌<◌, ◌≤◌, Bool, true, false, IsTrue, if◌then◌else◌, List, arith}
 use Rattle.copper_layers.specs.declared.set.LayerSet.{LayerSet}
 use Rattle.copper_layers.specs.Layers.{has_layer}
-use Rattle.board_items.specs.declared.parts.Part.{Part}
-use Rattle.board_items.specs.declared.item.What.{What}
-use Rattle.board_items.specs.declared.item.What.TheVariants as what
-use Rattle.board_items.specs.declared.item.Item.{Item}
+use Rattle.one_item.specs.declared.parts.Part.{Part}
+use Rattle.one_item.specs.declared.item.What.{What}
+use Rattle.one_item.specs.declared.item.What.TheVariants as what
+use Rattle.one_item.specs.declared.item.Item.{Item}
 use Rattle.cond_lang.specs.declared.kind.Kind.{Kind}
 use Rattle.rule_pick.specs.FactsOf.{SomeOn}
 use Rattle.kind_subjects.specs.declared.subject.Measure.{Measure}

@@ -11,12 +11,12 @@ use Rattle.std.proofs.Math.Seq.{drop-cons}
 use Rattle.std.proofs.Math.ListN.{drop_of_length-le}
 use Rattle.std.proofs.lemmas.List.Elements.{All-nil, All-cons, All-head, All-tail}
 use Rattle.copper_layers.specs.declared.set.LayerSet.{LayerSet}
-use Rattle.board_items.specs.declared.parts.Part.{Part}
-use Rattle.board_items.specs.declared.item.Hole.{Hole}
-use Rattle.board_items.specs.declared.item.Item.{Item}
+use Rattle.one_item.specs.declared.parts.Part.{Part}
+use Rattle.one_item.specs.declared.item.Hole.{Hole}
+use Rattle.one_item.specs.declared.item.Item.{Item}
 use Rattle.copper_layers.specs.Layers.{has_layer}
-use Rattle.board_items.specs.ItemParts.{hole_parts}
-use Rattle.board_items.specs.CopperPairs.{on_layer, SomeMeet, Keeps}
+use Rattle.one_item.specs.ItemParts.{hole_parts}
+use Rattle.one_item.specs.CopperPairs.{on_layer, SomeMeet, Keeps}
 use Rattle.cond_lang.specs.declared.kind.Kind.{Kind}
 use Rattle.rule_pick.specs.FactsOf.{SomeOn}
 use Rattle.item_copper.proofs.Meeting.{any_here, any_later, any_none, any_cases}
@@ -91,7 +91,7 @@ pub all_parts : (layer : ℕ) (parts : List Part) (i : ℕ) (layers : LayerSet) 
 all_parts layer parts i layers l (inl t) = t
 all_parts layer parts i layers l (inr s) = absurd (any_none (λ p. IsTrue (has_layer p.layers layer)) (subst (λ (ps : List Part). SomeOn layer ps) (drop_of_length-le parts {i = i} l) s))
 
--- ---- facings
+-- ---- measured pairs
 
 unmet : (f : MeasuredPair) → IsUnfaced f → SomeMeet f.own f.others → ⊥
 unmet f (inl e) m = any_none (λ (part : Part). Any (λ (other : Part). Meet part.shape other.shape) f.others) (subst (λ (ps : List Part). Any (λ (part : Part). Any (λ (other : Part). Meet part.shape other.shape) f.others) ps) e m.some)

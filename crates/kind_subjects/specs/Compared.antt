@@ -6,12 +6,12 @@ use Rattle.geo_seg.specs.declared.points.Point.{Point}
 use Rattle.geo_seg.specs.declared.shapes.Core.{Core}
 use Rattle.geo_seg.specs.declared.shapes.Core.TheVariants.{Line, Area as Polygon}
 use Rattle.copper_layers.specs.declared.set.LayerSet.{LayerSet}
-use Rattle.board_items.specs.declared.item.Hole.{Hole}
-use Rattle.board_items.specs.declared.item.Bans.{Bans}
-use Rattle.board_items.specs.declared.item.What.{What}
-use Rattle.board_items.specs.declared.item.What.TheVariants.{Track, Via, Pad, Graphic, Edge, Area, Body}
-use Rattle.board_items.specs.declared.item.Item.{Item}
-use Rattle.board_items.specs.Units.{is_body}
+use Rattle.one_item.specs.declared.item.Hole.{Hole}
+use Rattle.one_item.specs.declared.item.Bans.{Bans}
+use Rattle.one_item.specs.declared.item.What.{What}
+use Rattle.one_item.specs.declared.item.What.TheVariants.{Track, Via, Pad, Graphic, Edge, Area, Body}
+use Rattle.one_item.specs.declared.item.Item.{Item}
+use Rattle.one_item.specs.ItemKinds.{is_body}
 use Rattle.cond_lang.specs.declared.kind.Kind.{Kind}
 use Rattle.cond_lang.specs.declared.kind.Kind.TheVariants.{Short, Clearance, HoleClearance, HoleToHole, EdgeClearance, CourtyardClearance, Keepout, TrackWidth, ViaDiameter, HoleSize, AnnularWidth, Disallow, PhysicalClearance, PhysicalHoleClearance, Assertion}
 

@@ -2,10 +2,10 @@
 use Rattle.std.specs.Prelude.{ℤ, pos, neg_ℤ, ◌+ℤ◌, ◌-ℤ◌, ◌*ℤ◌, ◌≤ℤ◌, ◌<ℤ◌, Option, None, Some}
 use Rattle.std.specs.Option.{option_map}
 use Rattle.plain_types.specs.Lengths.{greatest}
-use Rattle.board_items.specs.declared.item.Hole.{Hole}
-use Rattle.board_items.specs.declared.item.What.{What}
-use Rattle.board_items.specs.declared.item.What.TheVariants.{Track, Via}
-use Rattle.board_items.specs.declared.item.Item.{Item}
+use Rattle.one_item.specs.declared.item.Hole.{Hole}
+use Rattle.one_item.specs.declared.item.What.{What}
+use Rattle.one_item.specs.declared.item.What.TheVariants.{Track, Via}
+use Rattle.one_item.specs.declared.item.Item.{Item}
 use Rattle.cond_lang.specs.declared.kind.Kind.{Kind}
 use Rattle.kind_subjects.specs.declared.subject.Measure.{Measure}
 use Rattle.kind_subjects.specs.declared.subject.Measure.TheVariants.{Width, Diameter, Bore, Ring}

@@ -1,13 +1,13 @@
 -- What is measured for a kind on a layer: which parts of the one item face which parts of the other.
 use Rattle.std.specs.Prelude.{ℕ, ℤ, nat_eq, Bool, true, false, IsTrue, List, [], ◌∷◌, ◌⊎◌, All, if◌then◌else◌, Option}
 use Rattle.std.specs.List.{Any}
-use Rattle.board_items.specs.declared.parts.Part.{Part}
-use Rattle.board_items.specs.declared.item.Hole.{Hole}
-use Rattle.board_items.specs.declared.item.What.{What}
-use Rattle.board_items.specs.declared.item.What.TheVariants.{Edge, Area, Body}
-use Rattle.board_items.specs.declared.item.Item.{Item}
-use Rattle.board_items.specs.CopperPairs.{on_layer, SomeMeet, Keeps}
-use Rattle.board_items.specs.ItemParts.{hole_parts}
+use Rattle.one_item.specs.declared.parts.Part.{Part}
+use Rattle.one_item.specs.declared.item.Hole.{Hole}
+use Rattle.one_item.specs.declared.item.What.{What}
+use Rattle.one_item.specs.declared.item.What.TheVariants.{Edge, Area, Body}
+use Rattle.one_item.specs.declared.item.Item.{Item}
+use Rattle.one_item.specs.CopperPairs.{on_layer, SomeMeet, Keeps}
+use Rattle.one_item.specs.ItemParts.{hole_parts}
 use Rattle.cond_lang.specs.declared.kind.Kind.{Kind}
 use Rattle.rule_pick.specs.FactsOf.{parts_asked}
 use Rattle.kind_subjects.specs.declared.subject.OperandKinds.{OperandKinds}

@@ -1,10 +1,13 @@
--- Facings as the code has them: sides that face each other, one way or both ways.
+-- Measured pairs as the code has them: sides that face each other, one way or both ways.
 use Rattle.std.specs.Prelude.{◌≡◌, ◌⊎◌, ◌<◌, ◌≤◌, ℕ, ℤ, List, [], ◌∷◌, All}
 use Rattle.std.specs.List.{Any}
-use Rattle.board_items.specs.CopperPairs.{SomeMeet, Keeps}
-use Rattle.board_items.specs.declared.item.Item.{Item}
+use Rattle.one_item.specs.CopperPairs.{SomeMeet, Keeps}
+use Rattle.one_item.specs.declared.parts.Part.{Part}
+use Rattle.one_item.specs.declared.item.Item.{Item}
 use Rattle.cond_lang.specs.declared.kind.Kind.{Kind}
 use Rattle.item_copper.specs.MeasuredSides.{parts_at}
+use Rattle.kind_subjects.specs.declared.subject.OperandKinds.{OperandKinds}
+use Rattle.kind_subjects.specs.declared.subject.OperandKinds.TheVariants.{Yards}
 use Rattle.kind_subjects.specs.declared.layer.RowLayer.{RowLayer}
 use Rattle.kind_subjects.specs.declared.layer.RowLayer.TheVariants.{Copper}
 use Rattle.kind_subjects.specs.declared.measure.Faced.{Faced}
@@ -26,11 +29,16 @@ measured_pairs_of Nothing = []
 measured_pairs_of (OneWay one) = measured_pair_of one ∷ []
 measured_pairs_of (BothWays there back) = measured_pair_of there ∷ measured_pair_of back ∷ []
 
--- the parts of some facing touch or overlap
+-- of courtyards on the same side
+abbrev pub yard_pairs : OperandKinds → List Part → List Part → List MeasuredPair
+yard_pairs Yards own others = measured_pair own others ∷ []
+yard_pairs _ own others = []
+
+-- the parts of some measured pair touch or overlap
 abbrev pub SomeMeasuredPairMeets : List MeasuredPair → Type 0
 SomeMeasuredPairMeets faced = Any (λ f. SomeMeet f.own f.others) faced
 
--- the parts of each facing keep the distance v
+-- the parts of each measured pair keep the distance v
 abbrev pub AllMeasuredPairsKeep : List MeasuredPair → ℤ → Type 0
 AllMeasuredPairsKeep faced v = All (λ f. Keeps f.own f.others v) faced
 

@@ -1,9 +1,9 @@
 -- On which layers a single item is asked, and on which it is measured.
 use Rattle.std.specs.Prelude.{◌≡◌, List, [], if◌then◌else◌}
-use Rattle.board_items.specs.declared.parts.Part.{Part}
-use Rattle.board_items.specs.declared.item.What.{What}
-use Rattle.board_items.specs.declared.item.What.TheVariants.{Edge, Area, Body, Note}
-use Rattle.board_items.specs.declared.item.Item.{Item}
+use Rattle.one_item.specs.declared.parts.Part.{Part}
+use Rattle.one_item.specs.declared.item.What.{What}
+use Rattle.one_item.specs.declared.item.What.TheVariants.{Edge, Area, Body, Note}
+use Rattle.one_item.specs.declared.item.Item.{Item}
 use Rattle.cond_lang.specs.declared.kind.Kind.{Kind}
 use Rattle.rule_pick.specs.FactsOf.{SomeOn}
 use Rattle.kind_subjects.specs.declared.subject.Measure.{Measure}

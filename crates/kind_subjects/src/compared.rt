@@ -1,7 +1,7 @@
 //! Which pairs of items are compared.
 
 ghost use Rattle.std.specs.Prelude.{◌≡◌};
-ghost use Rattle.board_items.specs.Units.{is_body};
+ghost use Rattle.one_item.specs.ItemKinds.{is_body};
 ghost use Rattle.kind_subjects.specs.Compared.{share_net, is_pad, is_graphic, pad_number, are_pads_of_one_number, are_graphic_and_pad, belong_together, is_micro_via, is_disc, are_round_holes, does_ban, keeps_out, is_edge, may_be_near, is_compared};
 
 use board_items::{Bans, Hole, Item, What};

@@ -3,13 +3,13 @@
 ghost use Rattle.std.specs.Prelude.{◌≡◌, ◌<◌, ◌⊎◌, ℤ, ◌↔◌, IsTrue, false, [], ◌∷◌};
 ghost use Rattle.plain_types.specs.Lengths.{IsLength};
 ghost use Rattle.geo_seg.specs.Distances.{IsGap};
-ghost use Rattle.board_items.specs.CopperPairs.{on_layer};
-ghost use Rattle.board_items.specs.ItemParts.{hole_parts};
+ghost use Rattle.one_item.specs.CopperPairs.{on_layer};
+ghost use Rattle.one_item.specs.ItemParts.{hole_parts};
 ghost use Rattle.rule_pick.specs.FactsOf.{parts_asked};
 ghost use Rattle.item_copper.specs.MeasuredSides.{parts_at};
-ghost use Rattle.kind_subjects.specs.declared.layer.RowLayer.TheVariants.{Copper, FrontYard, BackYard, Nowhere};
+ghost use Rattle.kind_subjects.specs.declared.layer.RowLayer.TheVariants.{Copper, Nowhere};
 ghost use Rattle.kind_subjects.specs.MeasuredPair.{copper_on, hole_on, hole_alone, lines_of, front_of, back_of, area_on, yard_on, placed_on, both_ways, copper_pairs, hole_pairs, faced, measured_pairs, MeetAt, KeepAt};
-ghost use Rattle.kind_subjects.specs.PairSides.{IsInStack, measured_pairs_of, SomeMeasuredPairMeets, AllMeasuredPairsKeep};
+ghost use Rattle.kind_subjects.specs.PairSides.{IsInStack, measured_pairs_of, yard_pairs, SomeMeasuredPairMeets, AllMeasuredPairsKeep};
 
 use crate::layer::RowLayer;
 use crate::subject::{OperandKinds, Subject, subject_of};
@@ -302,32 +302,17 @@ fn faced_nowhere<'a>(operand_kinds: OperandKinds, a: &'a Item, b: &'a Item) -> M
     }
 }
 
-/// What faces each other in the courtyards of the front.
-fn faced_in_front<'a>(operand_kinds: OperandKinds, a: &'a Item, b: &'a Item) -> MeasuredPairs<'a>
-    ensures { measured_pairs_of result ≡ faced operand_kinds FrontYard a.now b.now }
+/// What faces each other of two courtyards on the same side.
+fn faced_yards<'a>(
+    operand_kinds: OperandKinds,
+    own: SomeParts<'a>,
+    others: SomeParts<'a>,
+) -> MeasuredPairs<'a>
+    ensures { measured_pairs_of result
+        ≡ yard_pairs operand_kinds (parts_at own.entry) (parts_at others.entry) }
 {
     match operand_kinds {
-        OperandKinds::Yards => MeasuredPairs::OneWay(Faced {
-            own: front_of(&a.what),
-            others: front_of(&b.what),
-        }),
-        OperandKinds::Coppers
-        | OperandKinds::HolesAndCopper
-        | OperandKinds::Holes
-        | OperandKinds::EdgesAndCopper
-        | OperandKinds::Areas => MeasuredPairs::Nothing,
-    }
-}
-
-/// What faces each other in the courtyards of the back.
-fn faced_in_back<'a>(operand_kinds: OperandKinds, a: &'a Item, b: &'a Item) -> MeasuredPairs<'a>
-    ensures { measured_pairs_of result ≡ faced operand_kinds BackYard a.now b.now }
-{
-    match operand_kinds {
-        OperandKinds::Yards => MeasuredPairs::OneWay(Faced {
-            own: back_of(&a.what),
-            others: back_of(&b.what),
-        }),
+        OperandKinds::Yards => MeasuredPairs::OneWay(Faced { own, others }),
         OperandKinds::Coppers
         | OperandKinds::HolesAndCopper
         | OperandKinds::Holes
@@ -349,8 +334,8 @@ fn faced_at<'a>(
 {
     match layer {
         RowLayer::Copper(layer) => faced_on(operand_kinds, layer, a, b),
-        RowLayer::FrontYard => faced_in_front(operand_kinds, a, b),
-        RowLayer::BackYard => faced_in_back(operand_kinds, a, b),
+        RowLayer::FrontYard => faced_yards(operand_kinds, front_of(&a.what), front_of(&b.what)),
+        RowLayer::BackYard => faced_yards(operand_kinds, back_of(&a.what), back_of(&b.what)),
         RowLayer::Nowhere => faced_nowhere(operand_kinds, a, b),
     }
 }
@@ -426,8 +411,7 @@ fn gap_of(measured_pairs: &MeasuredPairs<'_>, most: Nm) -> Nm
     }
 }
 
-// The kind, the layer and the items of the next three tell the contract alone what the facings are of: so each of their callers is told
-// of these, and not of facings.
+// The next three take the kind, the layer and the items for their contracts alone, which say of these what the measured pairs show.
 
 /// Whether anything may face anything. It is a quick test: only a no is sure.
 #[inline(always)]

@@ -3,7 +3,7 @@
 ghost use Rattle.std.specs.Prelude.{◌≡◌, ◌⊎◌, ◌<◌, ◌≤◌, ℕ, IsTrue, false, []};
 ghost use Rattle.copper_layers.specs.declared.set.LayerSet.{LayerSet};
 ghost use Rattle.copper_layers.specs.Layers.{has_layer};
-ghost use Rattle.board_items.specs.ItemParts.{hole_parts};
+ghost use Rattle.one_item.specs.ItemParts.{hole_parts};
 ghost use Rattle.rule_pick.specs.FactsOf.{SomeOn};
 ghost use Rattle.kind_subjects.specs.declared.subject.OperandKinds.TheVariants.{EdgesAndCopper};
 ghost use Rattle.kind_subjects.specs.declared.layer.RowLayer.{RowLayer};

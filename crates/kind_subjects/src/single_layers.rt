@@ -1,7 +1,7 @@
 //! On which layers a single item is asked, and on which it is measured.
 
 ghost use Rattle.std.specs.Prelude.{◌≡◌, ◌↔◌, ◌<◌, ◌≤◌, IsTrue, if◌then◌else◌};
-ghost use Rattle.board_items.specs.declared.item.Item.{Item};
+ghost use Rattle.one_item.specs.declared.item.Item.{Item};
 ghost use Rattle.rule_pick.specs.FactsOf.{SomeOn};
 ghost use Rattle.kind_subjects.specs.declared.layer.RowLayer.{RowLayer};
 ghost use Rattle.kind_subjects.specs.TriedLayers.{rank, IsTried};

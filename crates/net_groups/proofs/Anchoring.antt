@@ -6,8 +6,9 @@ use Rattle.std.proofs.lemmas.List.Elements.{Contains-append_cases, Contains-appe
 use Rattle.int_algebra.proofs.Tested.{front, back, le_by_test}
 use Rattle.int_algebra.proofs.Scalars.{passed, passed_is}
 use Rattle.geo_seg.specs.declared.points.Point.{Point}
-use Rattle.board_items.specs.declared.item.Item.{Item}
-use Rattle.board_items.specs.Boards.{item_at, is_near, is_on_board}
+use Rattle.one_item.specs.declared.item.Item.{Item}
+use Rattle.one_item.specs.Positions.{is_near, is_on_board}
+use Rattle.board_items.specs.Boards.{item_at}
 use Rattle.ratsnest.specs.CoordinateRange.{IsInReach}
 use Rattle.ratsnest.specs.declared.anchor.Anchor.{Anchor}
 use Rattle.ratsnest.specs.NestOf.{IsBefore}
@@ -49,7 +50,7 @@ pub end_passed : (item : Item) (x y : ℤ) → IsInReach x → IsInReach y → H
 end_passed item x y r t h =
     subst (λ (z : ℤ). HasEnd item z (passed y)) (sym (reach_passed x r)) (subst (λ (z : ℤ). HasEnd item x z) (sym (reach_passed y t)) h)
 
--- a point is one spot
+-- a point is one pair of coordinates
 half_once : (x z v : ℤ) → pos 2 *ℤ x ≡ v → pos 2 *ℤ z ≡ v → x ≡ z
 half_once x z v e f = omega (arith, ints, e, f)
 

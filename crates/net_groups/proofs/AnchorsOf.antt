@@ -2,8 +2,9 @@
 use Rattle.std.proofs.Common.{◌≡◌, ℕ, zero, suc, ◌<◌, ◌≤◌, nat_eq, List, [], length, get_or, All, Contains, IsSome, Option, Some, inl, true, refl, sym, subst, ◌∙◌, arith, eq-eqb}
 use Rattle.std.proofs.lemmas.List.Elements.{All-contains, All-weaker, All-get_or, Contains-get_or}
 use Rattle.int_algebra.proofs.Tested.{front}
-use Rattle.board_items.specs.declared.item.Item.{Item}
-use Rattle.board_items.specs.Boards.{PlainBoard, IsSound, is_on_board, has_layers_of, item_at, ids_of_net}
+use Rattle.one_item.specs.declared.item.Item.{Item}
+use Rattle.one_item.specs.Positions.{is_on_board}
+use Rattle.board_items.specs.Boards.{PlainBoard, IsSound, has_layers_of, item_at, ids_of_net}
 use Rattle.ratsnest.specs.declared.anchor.Anchor.{Anchor}
 use Rattle.ratsnest.specs.NestOf.{GroupsOccur}
 use Rattle.net_groups.specs.ConnectedClasses.{least}

@@ -4,7 +4,7 @@ use Rattle.std.proofs.lemmas.Bool.{ne_eqb, eqb-true, eqb-false, and_parts, and_f
 use Rattle.std.proofs.lemmas.List.{append-nil, nil_from_length, get_or_default, append_assoc, take_more, take_all}
 use Rattle.std.proofs.lemmas.List.Elements.{filter-append}
 use Rattle.std.proofs.lemmas.List.Kept.{AllPairs-cons}
-use Rattle.board_items.specs.declared.item.Item.{Item}
+use Rattle.one_item.specs.declared.item.Item.{Item}
 use Rattle.board_items.specs.Boards.{PlainBoard, Rise, IsSound, item_at, ids_of_net}
 use Rattle.board_items.proofs.Rising.{item_at-middle}
 use Rattle.net_groups.specs.ConnectedClasses.{Rises}

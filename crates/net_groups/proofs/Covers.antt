@@ -7,10 +7,10 @@ use Rattle.std.proofs.lemmas.List.Elements.{All-contains, filter_passes}
 use Rattle.std.proofs.lemmas.Bool.{and_from}
 use Rattle.geo_seg.specs.declared.boxes.Bounds.{Bounds}
 use Rattle.geo_seg.specs.Boxes.{widened}
-use Rattle.board_items.specs.declared.item.Item.{Item}
+use Rattle.one_item.specs.declared.item.Item.{Item}
 use Rattle.board_items.specs.Boards.{PlainBoard}
-use Rattle.board_items.specs.ItemParts.{parts_of, hole_parts, kind_parts}
-use Rattle.board_items.specs.CopperPairs.{CopperMeets}
+use Rattle.one_item.specs.ItemParts.{parts_of, hole_parts, kind_parts}
+use Rattle.one_item.specs.CopperPairs.{CopperMeets}
 use Rattle.geo_seg.specs.Boxes.{BoxesMeet}
 use Rattle.item_copper.proofs.Meeting.{copper_to}
 use Rattle.item_copper.proofs.Symmetry.{copper_meets_back}

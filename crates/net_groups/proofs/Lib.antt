@@ -23,3 +23,7 @@ pub mod AnchorsOf
 pub mod Parts
 pub mod Stretched
 pub mod Held
+pub mod OneByOne
+pub mod Gathered
+pub mod Written
+pub mod OneParts

@@ -7,10 +7,10 @@ use Rattle.std.proofs.lemmas.Int.{ints}
 use Rattle.std.proofs.lemmas.Bool.{cases_lt}
 use Rattle.std.proofs.lemmas.List.{get_or_append_left, get_or-append_right, length_push}
 use Rattle.std.proofs.lemmas.List.Elements.{All-push}
-use Rattle.board_items.specs.declared.item.Item.{Item}
+use Rattle.one_item.specs.declared.item.Item.{Item}
 use Rattle.board_items.specs.Boards.{PlainBoard, item_at}
-use Rattle.board_items.specs.ItemParts.{parts_of}
-use Rattle.board_items.specs.Extents.{AreBoundsOf}
+use Rattle.one_item.specs.ItemParts.{parts_of}
+use Rattle.one_item.specs.Extents.{AreBoundsOf}
 use Rattle.item_copper.proofs.ItemBoxes.{boxes_meet}
 use Rattle.item_copper.proofs.Symmetry.{copper_meets_back}
 use Rattle.net_groups.specs.Touching.{Touching, TouchOn}

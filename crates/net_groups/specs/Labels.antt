@@ -1,6 +1,6 @@
 -- Private words of the search: the places of a list of ids get labels, the numbers of their groups.
 use Rattle.std.specs.Prelude.{◌≡◌, ℕ, suc, ◌+◌, ◌<◌, ◌≤◌, ◌==◌, Bool, false, not, ◌&&◌, if◌then◌else◌, List, [], ◌∷◌, length, slice_index, slice_index_or, ◌⊎◌, Option, None, Some, Contains}
-use Rattle.board_items.specs.declared.item.Item.{Item}
+use Rattle.one_item.specs.declared.item.Item.{Item}
 use Rattle.board_items.specs.Boards.{PlainBoard}
 use Rattle.net_groups.specs.StepChains.{Chain}
 use Rattle.net_groups.specs.ConnectedClasses.{Rises}

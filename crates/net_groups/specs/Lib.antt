@@ -9,3 +9,4 @@ pub mod Asking
 pub mod Anchors
 pub mod Numbering
 pub mod NetParts
+pub mod Works

@@ -1,9 +1,9 @@
 -- The groups of a net: what touching copper joins. All is said of the items of the net alone, so what happens to other nets
 -- changes nothing.
 use Rattle.std.specs.Prelude.{◌≡◌, ◌≢◌, ℕ, Bool, ◌&&◌, not, nat_eq, List, [], filter, Some, IsSome}
-use Rattle.board_items.specs.declared.item.Item.{Item}
+use Rattle.one_item.specs.declared.item.Item.{Item}
 use Rattle.board_items.specs.Boards.{PlainBoard, item_at}
-use Rattle.board_items.specs.CopperPairs.{CopperMeets}
+use Rattle.one_item.specs.CopperPairs.{CopperMeets}
 use Rattle.net_groups.specs.StepChains.{Chain}
 use Rattle.net_groups.specs.ConnectedClasses.{AreClasses}
 

@@ -1,8 +1,8 @@
 -- Private words of the search, which asks all items of a board: touches within a net.
 use Rattle.std.specs.Prelude.{◌≡◌, ◌≢◌, ℕ, List, [], Some}
-use Rattle.board_items.specs.declared.item.Item.{Item}
+use Rattle.one_item.specs.declared.item.Item.{Item}
 use Rattle.board_items.specs.Boards.{PlainBoard, item_at}
-use Rattle.board_items.specs.CopperPairs.{CopperMeets}
+use Rattle.one_item.specs.CopperPairs.{CopperMeets}
 use Rattle.net_groups.specs.StepChains.{Chain}
 use Rattle.net_groups.specs.ConnectedClasses.{AreClasses}
 

@@ -1,7 +1,8 @@
 //! The anchors of a net.
 
 ghost use Rattle.std.specs.Prelude.{◌≡◌, ◌<◌, ◌^◌, ℕ, true, Option, IfOk, OnOk, All, length};
-ghost use Rattle.board_items.specs.Boards.{IsSound, ids_of_net, is_on_board};
+ghost use Rattle.one_item.specs.Positions.{is_on_board};
+ghost use Rattle.board_items.specs.Boards.{IsSound, ids_of_net};
 ghost use Rattle.ratsnest.specs.NestOf.{AnchorsRise, GroupsOccur};
 ghost use Rattle.net_groups.specs.NetGroups.{AreGroups, HasItem};
 ghost use Rattle.net_groups.specs.ConnectedClasses.{Rises};

@@ -1,8 +1,8 @@
 //! The conductors of a net, each with its item box.
 
 ghost use Rattle.std.specs.Prelude.{◌≡◌, ◌≢◌, false, Some, [], MatchOption};
-ghost use Rattle.board_items.specs.ItemParts.{parts_of};
-ghost use Rattle.board_items.specs.Extents.{AreBoundsOf};
+ghost use Rattle.one_item.specs.ItemParts.{parts_of};
+ghost use Rattle.one_item.specs.Extents.{AreBoundsOf};
 ghost use Rattle.geo_seg.specs.Boxes.{FitsShape};
 ghost use Rattle.board_items.specs.Boards.{item_at};
 ghost use Rattle.net_groups.specs.Labels.{is_copper};
@@ -21,7 +21,7 @@ pub(crate) struct Conductors<'a> {
     pub(crate) runs: &'a [Bounds],
 }
 
-/// The item box of what takes up none.
+/// The box that stands for an item without bounds: the point 0.
 fn no_item_box() -> Bounds
     ensures { FitsShape result }
 {
@@ -33,7 +33,7 @@ fn no_item_box() -> Bounds
     }
 }
 
-/// The bounds of an item, or no item box.
+/// The bounds of an item, or the point 0 where it has none.
 fn bounds_of(item: &Item) -> Bounds
     ensures fits { FitsShape result }
     ensures item_box { parts_of item.now ≢ [] → AreBoundsOf (parts_of item.now) (Some result) }

@@ -1,7 +1,7 @@
 //! Laws of groups, anchors and parts of nets. The functions do nothing: each clause holds for all items or boards.
 
 ghost use Rattle.std.specs.Prelude.{◌≡◌, ℕ, List, All};
-ghost use Rattle.board_items.specs.declared.item.Item.{Item};
+ghost use Rattle.one_item.specs.declared.item.Item.{Item};
 ghost use Rattle.board_items.specs.Boards.{PlainBoard, IsSound};
 ghost use Rattle.ratsnest.specs.declared.anchor.Anchor.{Anchor};
 ghost use Rattle.net_groups.specs.NetGroups.{AreGroupsOf, items_of};
@@ -18,6 +18,12 @@ pub fn one_list()
 pub fn one_list_of_anchors()
     ensures { (items : List (ℕ × Item)) (groups : List (List ℕ)) (anchors others : List Anchor)
         → AreAnchorsOf items groups anchors → AreAnchorsOf items groups others → anchors ≡ others }
+{}
+
+/// A board has one list of parts.
+pub fn one_list_of_parts()
+    ensures { (board : PlainBoard) (parts others : List PlainNetPart) → AreParts board parts
+        → AreParts board others → parts ≡ others }
 {}
 
 /// What is found of a net stays where its items stay.

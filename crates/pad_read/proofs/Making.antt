@@ -4,12 +4,12 @@ use Rattle.std.proofs.Props.{props}
 use Rattle.geo_seg.specs.declared.shapes.Shape.{Shape}
 use Rattle.plain_types.specs.Lengths.{IsLength, IsLengthIfSome, is_length}
 use Rattle.copper_layers.specs.declared.set.LayerSet.{LayerSet}
-use Rattle.board_items.specs.declared.parts.Part.{Part}
-use Rattle.board_items.specs.declared.item.Hole.{Hole}
-use Rattle.board_items.specs.declared.item.What.{What}
-use Rattle.board_items.specs.declared.item.What.TheVariants.{Pad}
-use Rattle.board_items.specs.declared.item.Item.{Item}
-use Rattle.board_items.specs.Measures.{HasLengths}
+use Rattle.one_item.specs.declared.parts.Part.{Part}
+use Rattle.one_item.specs.declared.item.Hole.{Hole}
+use Rattle.one_item.specs.declared.item.What.{What}
+use Rattle.one_item.specs.declared.item.What.TheVariants.{Pad}
+use Rattle.one_item.specs.declared.item.Item.{Item}
+use Rattle.one_item.specs.Measures.{HasLengths}
 use Rattle.part_read.specs.declared.numbers.RawPoint.{RawPoint}
 use Rattle.plain_types.proofs.LengthTests.{length_in_range}
 use Rattle.part_read.specs.PlainItems.{unmeasured}

@@ -6,11 +6,11 @@ use Rattle.geo_seg.specs.declared.shapes.Core.{Core}
 use Rattle.geo_seg.specs.declared.shapes.Shape.{Shape}
 use Rattle.int_algebra.proofs.Tested.{front}
 use Rattle.copper_layers.specs.declared.set.LayerSet.{LayerSet}
-use Rattle.board_items.specs.declared.parts.Part.{Part}
-use Rattle.board_items.specs.declared.item.Hole.{Hole}
-use Rattle.board_items.specs.declared.item.Item.{Item}
+use Rattle.one_item.specs.declared.parts.Part.{Part}
+use Rattle.one_item.specs.declared.item.Hole.{Hole}
+use Rattle.one_item.specs.declared.item.Item.{Item}
 use Rattle.copper_layers.specs.Layers.{is_within}
-use Rattle.board_items.specs.ItemParts.{hole_parts}
+use Rattle.one_item.specs.ItemParts.{hole_parts}
 use Rattle.board_items.specs.Boards.{PlainBoard, name_of}
 use Rattle.copper_layers.proofs.LayerLemmas.{within_layers}
 use Rattle.part_read.specs.declared.numbers.RawPoint.{RawPoint}

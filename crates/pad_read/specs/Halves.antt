@@ -1,4 +1,4 @@
--- Points at raw points that count half nanometres.
+-- Points of a board, from numbers that count half nanometres.
 use Rattle.std.specs.Prelude.{◌≡◌, ℤ, nat_le, unsigned_abs, Bool, true, ◌&&◌, Option}
 use Rattle.std.proofs.lemmas.Bool.{leb-true}
 use Rattle.int_algebra.proofs.Tested.{front, back}

@@ -8,10 +8,10 @@ use Rattle.plain_types.specs.Lengths.{IsLengthIfSome, is_length}
 use Rattle.board_errors.specs.declared.errors.BoardError.{BoardError}
 use Rattle.board_errors.specs.declared.errors.BoardError.TheVariants.{OutOfBoard}
 use Rattle.copper_layers.specs.declared.set.LayerSet.{LayerSet}
-use Rattle.board_items.specs.declared.parts.Part.{Part}
-use Rattle.board_items.specs.declared.item.Hole.{Hole}
-use Rattle.board_items.specs.declared.item.What.TheVariants.{Pad}
-use Rattle.board_items.specs.declared.item.Item.{Item}
+use Rattle.one_item.specs.declared.parts.Part.{Part}
+use Rattle.one_item.specs.declared.item.Hole.{Hole}
+use Rattle.one_item.specs.declared.item.What.TheVariants.{Pad}
+use Rattle.one_item.specs.declared.item.Item.{Item}
 use Rattle.board_items.specs.Boards.{PlainBoard}
 use Rattle.part_read.specs.declared.numbers.RawPoint.{RawPoint}
 use Rattle.part_read.specs.declared.placements.Placement.{Placement}

@@ -1,7 +1,7 @@
 //! The copper of a pad: its rounded rectangle and the primitives around it, where they lie on the board.
 
 ghost use Rattle.std.specs.Prelude.{◌≡◌, ◌<◌, ◌++◌, All, IfOk, List, Option, Some, None, if◌then◌else◌};
-ghost use Rattle.board_items.specs.declared.parts.Part.{Part};
+ghost use Rattle.one_item.specs.declared.parts.Part.{Part};
 ghost use Rattle.part_read.specs.There.{both, after};
 ghost use Rattle.part_read.specs.Figures.{drawn, IsDrawable};
 ghost use Rattle.part_read.specs.Placements.{IsPlacementRawPoint};

@@ -16,7 +16,7 @@ ghost use Rattle.part_read.specs.Placements.{IsReadRawPoint};
 ghost use Rattle.pad_read.specs.PadShapes.{IsSmall};
 ghost use Rattle.pad_read.specs.PadFrames.{IsFramed};
 ghost use Rattle.pad_read.specs.PadOf.{frame_copper, frame_hole, frame_fits, local_fits, pad_item, pad_with, placed, label_of, pad_of};
-ghost use Rattle.board_items.specs.declared.item.What.TheVariants.{Pad};
+ghost use Rattle.one_item.specs.declared.item.What.TheVariants.{Pad};
 ghost use Rattle.board_errors.specs.declared.errors.BoardError.TheVariants.{OutOfBoard};
 ghost use Rattle.part_read.specs.NetsOf.{net_of};
 

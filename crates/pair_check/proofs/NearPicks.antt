@@ -7,7 +7,7 @@ use Rattle.std.specs.Int.{int_max}
 use Rattle.std.specs.List.{flat_map}
 use Rattle.std.specs.Map.{lookup}
 use Rattle.std.proofs.lemmas.List.Elements.{All-nil, All-cons, All-head, All-tail}
-use Rattle.board_items.specs.declared.item.Item.{Item}
+use Rattle.one_item.specs.declared.item.Item.{Item}
 use Rattle.board_items.specs.Boards.{PlainBoard, item_at, name_of}
 use Rattle.net_class.specs.NetClasses.{PlainClass, PlainClasses, PlainMins, PlainPattern, class_named, pattern_of, class_by, class_of}
 use Rattle.cond_lang.specs.declared.kind.Kind.{Kind}

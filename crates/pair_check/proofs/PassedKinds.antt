@@ -1,9 +1,9 @@
 -- Kinds of which a pair has no row, as a look at its items tells.
 use Rattle.std.proofs.Common.{◌≡◌, ◌⊎◌, inl, inr, refl, ap, subst, ℕ, Bool, true, false, ◌&&◌, ◌||◌, not, ◌∙◌, Option, None, Some, List, [], arith}
-use Rattle.board_items.specs.declared.item.Hole.{Hole}
-use Rattle.board_items.specs.declared.item.What.{What}
-use Rattle.board_items.specs.Units.{is_body}
-use Rattle.board_items.specs.declared.item.What.TheVariants.{Track, Via, Pad, Graphic, Fill, Edge, Area, Body, Note}
+use Rattle.one_item.specs.declared.item.Hole.{Hole}
+use Rattle.one_item.specs.declared.item.What.{What}
+use Rattle.one_item.specs.ItemKinds.{is_body}
+use Rattle.one_item.specs.declared.item.What.TheVariants.{Track, Via, Pad, Graphic, Fill, Edge, Area, Body, Note}
 use Rattle.cond_lang.specs.declared.kind.Kind.{Kind}
 use Rattle.cond_lang.specs.declared.kind.Kind.TheVariants.{Short, Clearance, HoleClearance, HoleToHole, EdgeClearance, CourtyardClearance, Keepout, PhysicalClearance, PhysicalHoleClearance}
 use Rattle.pair_check.specs.declared.asked.Asked.{Asked}

@@ -1,6 +1,6 @@
 -- Single items of which no rule asks anything: lengths that are enough for them, whatever their facts.
 use Rattle.std.specs.Prelude.{ℤ, ◌≤ℤ◌}
-use Rattle.board_items.specs.declared.item.Item.{Item}
+use Rattle.one_item.specs.declared.item.Item.{Item}
 use Rattle.cond_lang.specs.declared.kind.Kind.{Kind}
 use Rattle.cond_lang.specs.declared.kind.Kind.TheVariants.{TrackWidth, ViaDiameter, HoleSize, AnnularWidth, Disallow, Assertion}
 use Rattle.rule_pick.specs.declared.facts.Facts.{Facts}

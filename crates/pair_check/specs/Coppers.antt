@@ -1,8 +1,8 @@
 -- Pieces of copper: between two of them no edge, no area and no footprint is asked.
 use Rattle.std.specs.Prelude.{Bool, true, false, ◌&&◌}
-use Rattle.board_items.specs.declared.item.What.{What}
-use Rattle.board_items.specs.declared.item.What.TheVariants.{Track, Via, Pad, Graphic, Fill, Edge, Area, Body, Note}
-use Rattle.board_items.specs.declared.item.Item.{Item}
+use Rattle.one_item.specs.declared.item.What.{What}
+use Rattle.one_item.specs.declared.item.What.TheVariants.{Track, Via, Pad, Graphic, Fill, Edge, Area, Body, Note}
+use Rattle.one_item.specs.declared.item.Item.{Item}
 
 -- copper: no edge, no area, no footprint and no note
 abbrev pub is_copper : What → Bool

@@ -1,7 +1,7 @@
 -- The rows of a board: everything that its items break, over all pairs and all items.
 use Rattle.std.specs.Prelude.{◌≡◌, ◌⊎◌, ℕ, ◌<◌, List, length, All, Contains, Some, IsSome}
 use Rattle.std.specs.List.{AllPairs}
-use Rattle.board_items.specs.declared.item.Item.{Item}
+use Rattle.one_item.specs.declared.item.Item.{Item}
 use Rattle.board_items.specs.Boards.{PlainBoard, item_at}
 use Rattle.net_class.specs.NetClasses.{PlainClasses}
 use Rattle.cond_lang.specs.CheckKinds.{kind_number}

@@ -112,7 +112,7 @@ impl Row {
         self.source
     }
 
-    /// How much it weighs: an error or a warning.
+    /// The severity of the row: an error or a warning.
     pub fn severity(&self) -> Severity
         ensures value { result ≡ self.now.severity }
         ensures counts { MakesRows result }

@@ -3,7 +3,7 @@
 ghost use Rattle.std.specs.Prelude.{◌≡◌, ◌↔◌, ◌+◌, ◌<◌, ◌≤◌, ℤ, Bool, IsTrue, IsSome, IfSome, None, length, MatchOption};
 ghost use Rattle.plain_types.specs.Limits.{AreCounted};
 ghost use Rattle.plain_types.specs.Lengths.{IsLength};
-ghost use Rattle.board_items.specs.declared.item.Item.{Item};
+ghost use Rattle.one_item.specs.declared.item.Item.{Item};
 ghost use Rattle.board_items.specs.Boards.{item_at};
 ghost use Rattle.cond_lang.specs.declared.kind.Family.{Family};
 ghost use Rattle.cond_lang.specs.CheckKinds.{family, kind_number};

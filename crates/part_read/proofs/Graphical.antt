@@ -8,10 +8,10 @@ use Rattle.geo_seg.specs.declared.points.Point.{Point}
 use Rattle.geo_seg.specs.declared.shapes.Core.{Core}
 use Rattle.board_errors.specs.declared.errors.BoardError.{BoardError}
 use Rattle.copper_layers.specs.declared.set.LayerSet.{LayerSet}
-use Rattle.board_items.specs.declared.parts.Part.{Part}
-use Rattle.board_items.specs.declared.item.About.{About}
-use Rattle.board_items.specs.declared.item.What.TheVariants.{Graphic, Edge}
-use Rattle.board_items.specs.declared.item.Item.{Item}
+use Rattle.one_item.specs.declared.parts.Part.{Part}
+use Rattle.one_item.specs.declared.item.About.{About}
+use Rattle.one_item.specs.declared.item.What.TheVariants.{Graphic, Edge}
+use Rattle.one_item.specs.declared.item.Item.{Item}
 use Rattle.copper_layers.specs.Layers.{has_layer, is_within, single_layer}
 use Rattle.board_items.specs.Boards.{PlainBoard, name_of, is_admitted}
 use Rattle.copper_layers.proofs.LayerLemmas.{single_within}

@@ -2,10 +2,10 @@
 use Rattle.std.proofs.Common.{◌≡◌, ◌∙◌, ap, subst, ℕ, ℤ, List, None, false}
 use Rattle.std.proofs.Props.{props}
 use Rattle.plain_types.specs.Lengths.{IsLengthIfSome}
-use Rattle.board_items.specs.declared.parts.Part.{Part}
-use Rattle.board_items.specs.declared.item.What.{What}
-use Rattle.board_items.specs.declared.item.Item.{Item}
-use Rattle.board_items.specs.Measures.{HasLengths}
+use Rattle.one_item.specs.declared.parts.Part.{Part}
+use Rattle.one_item.specs.declared.item.What.{What}
+use Rattle.one_item.specs.declared.item.Item.{Item}
+use Rattle.one_item.specs.Measures.{HasLengths}
 use Rattle.part_read.specs.declared.numbers.RawPoint.{RawPoint}
 use Rattle.part_read.specs.PlainItems.{is_measured, unmeasured, none_in_range, plain_item}
 

@@ -11,7 +11,7 @@ use Rattle.geo_seg.specs.declared.points.Point.{Point}
 use Rattle.geo_seg.specs.declared.shapes.Core.{Core}
 use Rattle.geo_seg.specs.declared.shapes.Core.TheVariants.{Line}
 use Rattle.geo_seg.specs.declared.shapes.Shape.{Shape}
-use Rattle.board_items.specs.ItemRefusals.{is_near}
+use Rattle.one_item.specs.Positions.{is_near}
 use Rattle.part_read.specs.OnBoard.{tested, doubled_in_range}
 
 ≤ℤ_prop : (a b : ℤ) → IsProp (a ≤ℤ b)

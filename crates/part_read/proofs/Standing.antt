@@ -2,7 +2,7 @@
 use Rattle.std.proofs.Common.{◌≡◌, ◌∙◌, ap, sym, subst, ℕ, ◌+◌, ◌≤◌, ℤ, neg_ℤ, ◌+ℤ◌, unsigned_abs, Bool, true, false, cond, eqb, arith}
 use Rattle.std.proofs.lemmas.Int.{ints}
 use Rattle.int_algebra.proofs.Scalars.{passed, passed_is}
-use Rattle.board_items.specs.QuarterTurns.{turned}
+use Rattle.one_item.specs.QuarterTurns.{turned}
 use Rattle.part_read.specs.declared.numbers.RawPoint.{RawPoint}
 use Rattle.part_read.specs.declared.placements.Placement.{Placement}
 use Rattle.part_read.specs.Placements.{IsRawPointWithin, IsReadRawPoint, IsPlacementRawPoint, stood}

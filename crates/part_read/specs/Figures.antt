@@ -10,7 +10,7 @@ use Rattle.geo_seg.specs.declared.shapes.Core.TheVariants.{Line as LineCore, Are
 use Rattle.geo_seg.specs.declared.shapes.Shape.{Shape}
 use Rattle.plain_types.specs.Lengths.{IsLength, greatest, is_length}
 use Rattle.copper_layers.specs.declared.set.LayerSet.{LayerSet}
-use Rattle.board_items.specs.declared.parts.Part.{Part}
+use Rattle.one_item.specs.declared.parts.Part.{Part}
 use Rattle.part_read.specs.declared.numbers.RawPoint.{RawPoint}
 use Rattle.part_read.specs.declared.placements.Placement.{Placement}
 use Rattle.part_read.specs.declared.figures.Figure.{Figure}

@@ -5,9 +5,9 @@ use Rattle.sexpr_read.specs.Tree.{Tree}
 use Rattle.board_errors.specs.declared.errors.BoardError.{BoardError}
 use Rattle.board_errors.specs.declared.errors.BoardError.TheVariants.{OutOfBoard, Arc, Ring}
 use Rattle.copper_layers.specs.declared.set.LayerSet.{LayerSet}
-use Rattle.board_items.specs.declared.item.About.{About}
-use Rattle.board_items.specs.declared.item.What.TheVariants.{Graphic, Edge, Note}
-use Rattle.board_items.specs.declared.item.Item.{Item}
+use Rattle.one_item.specs.declared.item.About.{About}
+use Rattle.one_item.specs.declared.item.What.TheVariants.{Graphic, Edge, Note}
+use Rattle.one_item.specs.declared.item.Item.{Item}
 use Rattle.copper_layers.specs.Layers.{single_layer}
 use Rattle.board_items.specs.Boards.{PlainBoard}
 use Rattle.part_read.specs.declared.placements.Placement.{Placement}
@@ -44,7 +44,7 @@ layer_role_among copper (Some list) = do
   layer ← drawn_on copper atom
   Ok (layer_role_by atom layer)
 
--- the layer role that (layer NAME) names; a copper layer that the board has not is refused
+-- the role of the layer that (layer NAME) names; a copper layer that the board has not is refused
 unfoldable pub layer_role_of : LayerSet → Tree → Result LayerRole BoardError
 layer_role_of copper tree = layer_role_among copper (element (codes "layer") tree)
 

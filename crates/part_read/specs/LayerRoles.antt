@@ -1,4 +1,4 @@
--- What is known of the layer role of a graphic.
+-- The role of the layer on which a graphic lies: where it is copper, the board has that layer.
 use Rattle.std.specs.Prelude.{◌<◌, IsTrue, ⊤}
 use Rattle.copper_layers.specs.declared.set.LayerSet.{LayerSet}
 use Rattle.copper_layers.specs.Layers.{has_layer}

@@ -10,7 +10,7 @@ use Rattle.geo_seg.specs.declared.shapes.Shape.{Shape}
 use Rattle.plain_types.specs.Lengths.{IsLength, is_length}
 use Rattle.plain_types.proofs.LengthTests.{length_in_range}
 use Rattle.int_algebra.proofs.Tested.{front, back, doubled_by_tests}
-use Rattle.board_items.specs.Boards.{is_near}
+use Rattle.one_item.specs.Positions.{is_near}
 use Rattle.part_read.specs.declared.numbers.RawPoint.{RawPoint}
 use Rattle.part_read.specs.declared.on_board.Strip.{Strip}
 

@@ -2,7 +2,7 @@
 -- they are turned and moved first, and tested for the board last.
 use Rattle.std.specs.Prelude.{ℕ, ℤ, pos, ◌+ℤ◌, ◌≤◌, unsigned_abs, List, map, Option}
 use Rattle.geo_seg.specs.declared.points.Point.{Point}
-use Rattle.board_items.specs.QuarterTurns.{turned}
+use Rattle.one_item.specs.QuarterTurns.{turned}
 use Rattle.part_read.specs.declared.numbers.RawPoint.{RawPoint}
 use Rattle.part_read.specs.declared.placements.Placement.{Placement}
 use Rattle.part_read.specs.There.{all_there}

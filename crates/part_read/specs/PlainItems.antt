@@ -2,11 +2,11 @@
 use Rattle.std.specs.Prelude.{◌≡◌, ℕ, Bool, true, false, List, None}
 use Rattle.std.proofs.Common.{ap}
 use Rattle.plain_types.specs.Lengths.{IsLengthIfSome}
-use Rattle.board_items.specs.declared.parts.Part.{Part}
-use Rattle.board_items.specs.declared.item.What.{What}
-use Rattle.board_items.specs.declared.item.What.TheVariants.{Track, Via}
-use Rattle.board_items.specs.declared.item.Item.{Item}
-use Rattle.board_items.specs.Measures.{HasLengths}
+use Rattle.one_item.specs.declared.parts.Part.{Part}
+use Rattle.one_item.specs.declared.item.What.{What}
+use Rattle.one_item.specs.declared.item.What.TheVariants.{Track, Via}
+use Rattle.one_item.specs.declared.item.Item.{Item}
+use Rattle.one_item.specs.Measures.{HasLengths}
 use Rattle.part_read.specs.declared.numbers.RawPoint.{RawPoint}
 
 -- the kinds that have lengths

@@ -1,6 +1,6 @@
 -- Items that a board takes.
 use Rattle.std.specs.Prelude.{◌≡◌, ℕ, ◌<◌, ◌≤◌, true, List, length, All}
-use Rattle.board_items.specs.declared.item.Item.{Item}
+use Rattle.one_item.specs.declared.item.Item.{Item}
 use Rattle.board_items.specs.Boards.{PlainBoard, is_admitted}
 use Rattle.board_items.specs.ItemRefusals.{capacity_of}
 

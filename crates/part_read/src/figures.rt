@@ -24,7 +24,7 @@ use std::alloc::{AllocError, Global};
 #[derive(Drop)]
 pub enum Figure {
     Line(RawPoint, RawPoint),
-    /// A rectangle, by two corners that lie across.
+    /// A rectangle, by two opposite corners.
     Rect(RawPoint, RawPoint),
     /// A circle, by its centre and its radius.
     Circle(RawPoint, Nm),

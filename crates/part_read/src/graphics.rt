@@ -1,7 +1,7 @@
 //! Graphics and texts of boards and of footprints.
 
 ghost use Rattle.std.specs.Prelude.{◌≡◌, ◌<◌, ◌∷◌, [], false, Some, IfOk, All, codes};
-ghost use Rattle.board_items.specs.declared.item.Item.{Item};
+ghost use Rattle.one_item.specs.declared.item.Item.{Item};
 ghost use Rattle.sexpr_read.specs.TreeViews.{tree_of};
 ghost use Rattle.part_read.specs.NodeResults.{Gives};
 ghost use Rattle.list_read.specs.NamedElements.{element};
@@ -66,7 +66,7 @@ fn layer_role_by(atom: Node<'_, '_>, layer: Option<u32>) -> LayerRole
     LayerRole::Elsewhere
 }
 
-/// The layer role that `(layer NAME)` names. A copper layer that the board has not is refused.
+/// The role of the layer that `(layer NAME)` names. A copper layer that the board has not is refused.
 #[tactic(auto, unfolding(crate::specs::Graphics::layer_role_of))]
 pub fn layer_role_of(copper: LayerSet, node: Node<'_, '_>) -> Result<LayerRole, BoardError>
     ensures lies { result ≡ layer_role_of copper (tree_of node.entry) }

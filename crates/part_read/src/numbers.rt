@@ -10,7 +10,7 @@ use board_items::{BoardError, Nm};
 use exact_dec::{count_of, mm_cut};
 use sexpr_read::Node;
 
-/// A raw point in the plane, in nanometres. It may lie off the board.
+/// A point as a text gives it, in nanometres, before it is tested: it may lie off the board.
 #[derive(Clone, Copy, Debug, PartialEq, Eq, Drop)]
 pub struct RawPoint {
     pub x: Nm,

@@ -8,16 +8,17 @@ use Rattle.int_algebra.proofs.Tested.{front, back}
 use Rattle.geo_seg.specs.declared.shapes.Shape.{Shape}
 use Rattle.plain_types.specs.Lengths.{IsLength, IsLengthIfSome}
 use Rattle.copper_layers.specs.declared.set.LayerSet.{LayerSet}
-use Rattle.board_items.specs.declared.parts.Part.{Part}
-use Rattle.board_items.specs.declared.item.Hole.{Hole}
-use Rattle.board_items.specs.declared.item.What.{What}
-use Rattle.board_items.specs.declared.item.What.TheVariants.{Track, Via}
-use Rattle.board_items.specs.declared.item.Item.{Item}
-use Rattle.board_items.specs.Measures.{HasLengths}
-use Rattle.board_items.proofs.MeasureLemmas.{via_lengths}
+use Rattle.one_item.specs.declared.parts.Part.{Part}
+use Rattle.one_item.specs.declared.item.Hole.{Hole}
+use Rattle.one_item.specs.declared.item.What.{What}
+use Rattle.one_item.specs.declared.item.What.TheVariants.{Track, Via}
+use Rattle.one_item.specs.declared.item.Item.{Item}
+use Rattle.one_item.specs.Measures.{HasLengths}
+use Rattle.one_item.proofs.MeasureLemmas.{via_lengths}
 use Rattle.copper_layers.specs.Layers.{is_within}
-use Rattle.board_items.specs.ItemParts.{hole_parts}
-use Rattle.board_items.specs.Boards.{PlainBoard, name_of, is_near, is_on_board, has_layers_of, is_admitted}
+use Rattle.one_item.specs.ItemParts.{hole_parts}
+use Rattle.one_item.specs.Positions.{is_near, is_on_board}
+use Rattle.board_items.specs.Boards.{PlainBoard, name_of, has_layers_of, is_admitted}
 use Rattle.part_read.specs.declared.on_board.Strip.{Strip}
 use Rattle.plain_types.proofs.LengthTests.{length_in_range}
 use Rattle.part_read.specs.OnBoard.{tested, is_strip, strip_shape}

@@ -5,8 +5,8 @@ use Rattle.sexpr_read.specs.Tree.{Tree, parts}
 use Rattle.board_errors.specs.declared.errors.BoardError.{BoardError}
 use Rattle.board_errors.specs.declared.errors.BoardError.TheVariants.{Missing, OutOfBoard, Turned}
 use Rattle.copper_layers.specs.declared.set.LayerSet.{LayerSet}
-use Rattle.board_items.specs.declared.item.Item.{Item}
-use Rattle.board_items.specs.declared.item.About.TheVariants.{Text, FootZone}
+use Rattle.one_item.specs.declared.item.Item.{Item}
+use Rattle.one_item.specs.declared.item.About.TheVariants.{Text, FootZone}
 use Rattle.board_items.specs.Boards.{PlainBoard}
 use Rattle.part_read.specs.declared.numbers.RawPoint.{RawPoint}
 use Rattle.part_read.specs.declared.placements.Placement.{Placement}
@@ -35,7 +35,7 @@ use Rattle.footprint_read.specs.FootprintOf.{given_at, giving, drawn_gives, arc_
 use Rattle.pcb_read.specs.BoardRefusalPlaces.{IsPlacedInText}
 use Rattle.pcb_read.specs.ShortTrees.{IsShort, AllShort}
 use Rattle.pcb_read.proofs.Nearness.{Near, ShortIf, near_same, step, with_tree, by_test, near_needed, needed_short, near_check, near_place, parts_short, find_short, near_element, of_atom, near_raw_point_of, near_copper, near_raw_points}
-use Rattle.pcb_read.proofs.Nearby.{near_ground, near_graphic, near_curve, near_writing}
+use Rattle.pcb_read.proofs.Nearby.{near_layer_role, near_graphic, near_curve, near_writing}
 use Rattle.pcb_read.proofs.NearPads.{near_local_placement, near_clearance, near_pad}
 
 -- ---- the head
@@ -149,12 +149,12 @@ near_arc t Elsewhere h = near_giving t (curve_by t Elsewhere) h (near_curve t El
 
 near_other : (board : PlainBoard) (unit : ℕ) (t : Tree) → IsShort t → NearGiven (other_gives board unit t)
 near_other board unit t h =
-    given_if (is_curve t) _ _ (given_by (layer_role_of board.copper t) _ (near_ground board.copper t h) (λ lies. near_arc t lies h))
-    (given_if (is_writing t) _ _ (given_by (layer_role_of board.copper t) _ (near_ground board.copper t h) (λ lies. near_giving t (text_by unit Text t lies) h (near_writing unit Text t lies)))
+    given_if (is_curve t) _ _ (given_by (layer_role_of board.copper t) _ (near_layer_role board.copper t h) (λ lies. near_arc t lies h))
+    (given_if (is_writing t) _ _ (given_by (layer_role_of board.copper t) _ (near_layer_role board.copper t h) (λ lies. near_giving t (text_by unit Text t lies) h (near_writing unit Text t lies)))
     (given_if (has_head (codes "zone") t) _ _ (near_giving t (Ok (note_of (name_in t) unit FootZone [] ∷ [])) h tt) tt))
 
 near_kind : (board : PlainBoard) (unit : ℕ) (head : Head) (t : Tree) (o : Option GraphicKind) → IsShort t → NearGiven (kind_gives board unit head t o)
-near_kind board unit head t (Some kind) h = given_by (layer_role_of board.copper t) _ (near_ground board.copper t h) (λ lies. near_drawn board unit head kind t lies h)
+near_kind board unit head t (Some kind) h = given_by (layer_role_of board.copper t) _ (near_layer_role board.copper t h) (λ lies. near_drawn board unit head kind t lies h)
 near_kind board unit head t None h = near_other board unit t h
 
 near_child : (board : PlainBoard) (unit : ℕ) (head : Head) (t : Tree) → IsShort t → NearGiven (child_gives board unit head t)

@@ -6,7 +6,7 @@ use Rattle.sexpr_read.specs.Tree.{Forest, none, atom, list, Tree, leaf, branch, 
 use Rattle.sexpr_read.specs.TreePlaces.{StandBetween, PartsStandBetween}
 use Rattle.board_errors.specs.declared.errors.BoardError.{BoardError}
 use Rattle.board_errors.specs.declared.errors.BoardError.TheVariants.{TooMany}
-use Rattle.board_items.specs.declared.item.Item.{Item}
+use Rattle.one_item.specs.declared.item.Item.{Item}
 use Rattle.board_items.specs.Boards.{PlainBoard}
 use Rattle.part_read.specs.declared.graphics.LayerRole.{LayerRole}
 use Rattle.list_read.specs.FirstRefusals.{check}
@@ -17,31 +17,31 @@ use Rattle.pcb_read.specs.declared.sorts.Sort.{Sort}
 use Rattle.pcb_read.specs.declared.sorts.Sort.TheVariants.{Track, Via, Arc, Graphic, Curve, Text, Zone, Footprint}
 use Rattle.pcb_read.specs.Sorts.{sort_of}
 use Rattle.pcb_read.specs.Tracks.{track_of, via_of}
-use Rattle.pcb_read.specs.ItemsOf.{has_capacity, in_capacity, on_ground, SaysItems}
+use Rattle.pcb_read.specs.ItemsOf.{has_capacity, in_capacity, by_layer_role, SaysItems}
 use Rattle.pcb_read.specs.RelatedResults.{GivesSome}
 use Rattle.pcb_read.specs.ItemText.{SaysBy, alone, SaysAlone}
 use Rattle.pcb_read.specs.BoardRefusalPlaces.{IsPlacedInText}
 use Rattle.pcb_read.specs.ShortTrees.{AreShort, IsShort, AllShort}
 use Rattle.pcb_read.proofs.Nearness.{Near, NearShort, near_same, step, near_check, near_place}
-use Rattle.pcb_read.proofs.Nearby.{near_ground, near_one, near_graphic, near_curve, near_writing, near_zone, near_track, near_via}
+use Rattle.pcb_read.proofs.Nearby.{near_layer_role, near_one, near_graphic, near_curve, near_writing, near_zone, near_track, near_via}
 use Rattle.pcb_read.proofs.NearFootprints.{near_footprint}
 
 near_in_capacity : (board : PlainBoard) (unit : ℕ) (t : Tree) (answer : Result (List Item) BoardError) → IsShort t → Near answer → Near (in_capacity board unit t answer)
 near_in_capacity board unit t answer h k =
     step answer _ k (λ items. step (check (TooMany (place t)) (has_capacity board unit items)) _ (near_check (TooMany (place t)) (has_capacity board unit items) (near_place t h)) (λ u. tt))
 
-near_on_ground : (board : PlainBoard) (t : Tree) (f : LayerRole → Result (List Item) BoardError) → IsShort t → ((lies : LayerRole) → Near (f lies)) → Near (on_ground board t f)
-near_on_ground board t f h k = step (layer_role_of board.copper t) f (near_ground board.copper t h) k
+near_by_layer_role : (board : PlainBoard) (t : Tree) (f : LayerRole → Result (List Item) BoardError) → IsShort t → ((lies : LayerRole) → Near (f lies)) → Near (by_layer_role board t f)
+near_by_layer_role board t f h k = step (layer_role_of board.copper t) f (near_layer_role board.copper t h) k
 
 near_list : (board : PlainBoard) (unit : ℕ) (t : Tree) (sort : Sort) (answer : Result (List Item) BoardError) → IsShort t → SaysItems board unit t sort answer → Near answer
 near_list board unit t Track answer h says = near_same says (near_in_capacity board unit t (one_item (track_of board unit t)) h (near_one (track_of board unit t) (near_track board unit t h)))
 near_list board unit t Via answer h says = near_same says (near_in_capacity board unit t (one_item (via_of board unit t)) h (near_one (via_of board unit t) (near_via board unit t h)))
 near_list board unit t Arc answer h says = near_same says (near_place t h)
 near_list board unit t (Graphic kind) answer h says =
-    near_same says (near_in_capacity board unit t (on_ground board t (graphic_by board unit as_it_is kind t)) h (near_on_ground board t (graphic_by board unit as_it_is kind t) h (λ lies. near_graphic board unit as_it_is kind t lies h)))
-near_list board unit t Curve answer h says = near_same says (near_on_ground board t (curve_by t) h (λ lies. near_curve t lies h))
+    near_same says (near_in_capacity board unit t (by_layer_role board t (graphic_by board unit as_it_is kind t)) h (near_by_layer_role board t (graphic_by board unit as_it_is kind t) h (λ lies. near_graphic board unit as_it_is kind t lies h)))
+near_list board unit t Curve answer h says = near_same says (near_by_layer_role board t (curve_by t) h (λ lies. near_curve t lies h))
 near_list board unit t (Text about) answer h says =
-    near_same says (near_in_capacity board unit t (on_ground board t (text_by unit about t)) h (near_on_ground board t (text_by unit about t) h (λ lies. near_writing unit about t lies)))
+    near_same says (near_in_capacity board unit t (by_layer_role board t (text_by unit about t)) h (near_by_layer_role board t (text_by unit about t) h (λ lies. near_writing unit about t lies)))
 near_list board unit t Zone answer h says = near_same says (near_zone board unit t h)
 near_list board unit t Footprint answer h says = near_footprint board unit t answer h says
 

@@ -4,8 +4,8 @@ use Rattle.sexpr_read.specs.Tree.{Tree, parts}
 use Rattle.board_errors.specs.declared.errors.BoardError.{BoardError}
 use Rattle.board_errors.specs.declared.errors.BoardError.TheVariants.{Missing, OutOfBoard, Ring, ThickFill, TooMany}
 use Rattle.copper_layers.specs.declared.set.LayerSet.{LayerSet}
-use Rattle.board_items.specs.declared.item.About.{About}
-use Rattle.board_items.specs.declared.item.Item.{Item}
+use Rattle.one_item.specs.declared.item.About.{About}
+use Rattle.one_item.specs.declared.item.Item.{Item}
 use Rattle.board_items.specs.Boards.{PlainBoard}
 use Rattle.copper_layers.specs.Layers.{single_layer}
 use Rattle.part_read.specs.declared.numbers.RawPoint.{RawPoint}
@@ -35,9 +35,9 @@ near_layer_role_among : (copper : LayerSet) (o : Option Tree) → ShortIf o → 
 near_layer_role_among copper None h = tt
 near_layer_role_among copper (Some t) h = of_atom 1 t _ h (λ a s. step (drawn_on copper a) _ (near_drawn_on copper a s) (λ layer. tt))
 
-pub near_ground : (copper : LayerSet) (t : Tree) → IsShort t → Near (layer_role_of copper t)
+pub near_layer_role : (copper : LayerSet) (t : Tree) → IsShort t → Near (layer_role_of copper t)
 unfolding layer_role_of
-near_ground copper t h = near_layer_role_among copper (element (codes "layer") t) (near_element (codes "layer") t h)
+near_layer_role copper t h = near_layer_role_among copper (element (codes "layer") t) (near_element (codes "layer") t h)
 
 near_copper_graphic : (board : PlainBoard) (unit : ℕ) (placement : Placement) (kind : GraphicKind) (layer : ℕ) (t : Tree) → IsShort t → Near (copper_graphic board unit placement kind layer t)
 unfolding copper_graphic

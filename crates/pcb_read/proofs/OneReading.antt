@@ -5,7 +5,7 @@ use Rattle.sexpr_read.specs.Spelling.{Spells, SpellsAll}
 use Rattle.sexpr_read.specs.TreeRefusals.{refusal_of_one, refusal_of_all}
 use Rattle.board_errors.specs.declared.errors.BoardError.{BoardError}
 use Rattle.board_errors.specs.declared.errors.BoardError.TheVariants.{Text as TextRefused, OutOfMemory}
-use Rattle.board_items.specs.declared.item.Item.{Item}
+use Rattle.one_item.specs.declared.item.Item.{Item}
 use Rattle.board_items.specs.Boards.{PlainBoard}
 use Rattle.list_read.specs.FirstRefusals.{◌>>=◌}
 use Rattle.list_read.proofs.Texts as texts

@@ -5,7 +5,7 @@ use Rattle.std.specs.Prelude.{◌≡◌, ◌⊎◌, List, [], ◌∷◌, ◌++�
 use Rattle.sexpr_read.specs.Tree.{Tree, parts, is_list}
 use Rattle.board_errors.specs.declared.errors.BoardError.{BoardError}
 use Rattle.board_errors.specs.declared.errors.BoardError.TheVariants.{NotABoard, Version, Missing}
-use Rattle.board_items.specs.declared.item.Item.{Item}
+use Rattle.one_item.specs.declared.item.Item.{Item}
 use Rattle.board_items.specs.Boards.{PlainBoard, empty_board, with_item}
 use Rattle.list_read.specs.FirstRefusals.{◌>>=◌, needed, check}
 use Rattle.list_read.specs.ListHeads.{place, is_text, has_head}

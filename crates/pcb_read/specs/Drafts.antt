@@ -6,7 +6,7 @@ use Rattle.board_errors.specs.declared.errors.BoardError.{BoardError}
 use Rattle.board_errors.specs.declared.errors.BoardError.TheVariants.{OutOfBoard}
 use Rattle.copper_layers.specs.declared.set.LayerSet.{LayerSet}
 use Rattle.copper_layers.specs.Layers.{single_layer, is_within}
-use Rattle.board_items.specs.declared.item.Item.{Item}
+use Rattle.one_item.specs.declared.item.Item.{Item}
 use Rattle.board_items.specs.Boards.{PlainBoard, name_of}
 use Rattle.list_read.specs.FirstRefusals.{◌>>=◌, needed}
 use Rattle.list_read.specs.ListHeads.{place, has_word}

@@ -6,7 +6,7 @@ use Rattle.sexpr_read.specs.declared.place.TextError.TheVariants.{NotUtf8, Close
 use Rattle.sexpr_read.specs.Tree.{Tree, parts, is_list}
 use Rattle.board_errors.specs.declared.errors.BoardError.{BoardError}
 use Rattle.board_errors.specs.declared.errors.BoardError.TheVariants.{Text, NotABoard, Version, Missing, BadNumber, OutOfBoard, Arc, Turned, PadShape, Ring, UnknownNet, UnknownLayer, ThickFill, TooMany, OutOfMemory}
-use Rattle.board_items.specs.declared.item.Item.{Item}
+use Rattle.one_item.specs.declared.item.Item.{Item}
 use Rattle.board_items.specs.Boards.{PlainBoard}
 use Rattle.list_read.specs.ListHeads.{place}
 use Rattle.list_read.specs.TextResults.{OfForms}

@@ -4,7 +4,7 @@ use Rattle.std.specs.Prelude.{◌≡◌, ℕ, List, [], ◌∷◌, length, Bool,
 use Rattle.sexpr_read.specs.Tree.{Tree}
 use Rattle.board_errors.specs.declared.errors.BoardError.{BoardError}
 use Rattle.board_errors.specs.declared.errors.BoardError.TheVariants.{Arc as NoArc, TooMany}
-use Rattle.board_items.specs.declared.item.Item.{Item}
+use Rattle.one_item.specs.declared.item.Item.{Item}
 use Rattle.board_items.specs.Boards.{PlainBoard}
 use Rattle.part_read.specs.declared.graphics.LayerRole.{LayerRole}
 use Rattle.list_read.specs.FirstRefusals.{◌>>=◌, check}
@@ -29,16 +29,16 @@ in_capacity board unit tree answer = do
   capacity ← check (TooMany (place tree)) (has_capacity board unit items)
   Ok items
 
--- what is said by the layer role on which a list lies
-abbrev pub on_ground : PlainBoard → Tree → (LayerRole → Result (List Item) BoardError) → Result (List Item) BoardError
-on_ground board tree given = layer_role_of board.copper tree >>= given
+-- what is said by the role of the layer on which a list lies
+abbrev pub by_layer_role : PlainBoard → Tree → (LayerRole → Result (List Item) BoardError) → Result (List Item) BoardError
+by_layer_role board tree given = layer_role_of board.copper tree >>= given
 
 abbrev pub SaysItems : PlainBoard → ℕ → Tree → Sort → Result (List Item) BoardError → Type 0
 SaysItems board unit tree Track answer = answer ≡ in_capacity board unit tree (one_item (track_of board unit tree))
 SaysItems board unit tree Via answer = answer ≡ in_capacity board unit tree (one_item (via_of board unit tree))
 SaysItems board unit tree Arc answer = answer ≡ Err (NoArc (place tree))
-SaysItems board unit tree (Graphic kind) answer = answer ≡ in_capacity board unit tree (on_ground board tree (graphic_by board unit as_it_is kind tree))
-SaysItems board unit tree Curve answer = answer ≡ on_ground board tree (curve_by tree)
-SaysItems board unit tree (Text about) answer = answer ≡ in_capacity board unit tree (on_ground board tree (text_by unit about tree))
+SaysItems board unit tree (Graphic kind) answer = answer ≡ in_capacity board unit tree (by_layer_role board tree (graphic_by board unit as_it_is kind tree))
+SaysItems board unit tree Curve answer = answer ≡ by_layer_role board tree (curve_by tree)
+SaysItems board unit tree (Text about) answer = answer ≡ in_capacity board unit tree (by_layer_role board tree (text_by unit about tree))
 SaysItems board unit tree Zone answer = answer ≡ zone_of board unit tree
 SaysItems board unit tree Footprint answer = FootprintSays board unit tree answer

@@ -1,7 +1,7 @@
 -- What a list of a board is, by its head. The lists are those of the KiCad developer documentation.
 use Rattle.std.specs.Prelude.{List, [], ◌∷◌, codes, Bool, ◌||◌, Option, None, Some, if◌then◌else◌}
 use Rattle.sexpr_read.specs.Tree.{Tree, parts}
-use Rattle.board_items.specs.declared.item.About.TheVariants.{Text as OfText, Dimension as OfDimension}
+use Rattle.one_item.specs.declared.item.About.TheVariants.{Text as OfText, Dimension as OfDimension}
 use Rattle.part_read.specs.declared.drawings.GraphicKind.TheVariants.{Line, Rect, Circle, Outline}
 use Rattle.list_read.specs.ListHeads.{is_text}
 use Rattle.pcb_read.specs.declared.sorts.Sort.{Sort}

@@ -7,12 +7,12 @@ use Rattle.plain_types.specs.Lengths.{IsLength, IsLengthIfSome}
 use Rattle.board_errors.specs.declared.errors.BoardError.{BoardError}
 use Rattle.board_errors.specs.declared.errors.BoardError.TheVariants.{OutOfBoard}
 use Rattle.copper_layers.specs.declared.set.LayerSet.{LayerSet}
-use Rattle.board_items.specs.declared.item.Item.{Item}
-use Rattle.board_items.specs.declared.item.Hole.{Hole}
-use Rattle.board_items.specs.declared.item.What.TheVariants.{Track, Via}
+use Rattle.one_item.specs.declared.item.Item.{Item}
+use Rattle.one_item.specs.declared.item.Hole.{Hole}
+use Rattle.one_item.specs.declared.item.What.TheVariants.{Track, Via}
 use Rattle.copper_layers.specs.Layers.{single_layer}
 use Rattle.board_items.specs.Boards.{PlainBoard}
-use Rattle.board_items.proofs.MeasureLemmas.{track_lengths, via_lengths}
+use Rattle.one_item.proofs.MeasureLemmas.{track_lengths, via_lengths}
 use Rattle.part_read.specs.declared.on_board.Strip.{Strip}
 use Rattle.pcb_read.specs.declared.items.Origin.{Origin}
 use Rattle.pcb_read.specs.declared.items.ViaForm.{ViaForm}
@@ -59,7 +59,7 @@ track_of board unit tree = do
 
 -- ---- vias
 
--- a disc around the spot of a via
+-- a disc around the position of a via
 abbrev pub disc : ViaForm → ℤ → Strip
 disc form size = record { a = form.at; b = form.at; width = size }
 

@@ -3,7 +3,7 @@
 ghost use Rattle.std.specs.Prelude.{◌≡◌, ◌⊎◌, List, MatchResult, IfOk, IfErr, Result, Ok, Err};
 ghost use Rattle.plain_types.specs.Limits.{IsInText, IsReadable};
 ghost use Rattle.board_errors.specs.declared.errors.BoardError.{BoardError};
-ghost use Rattle.board_items.specs.declared.item.Item.{Item};
+ghost use Rattle.one_item.specs.declared.item.Item.{Item};
 ghost use Rattle.sexpr_read.specs.Tree.{parts};
 ghost use Rattle.sexpr_read.specs.TreeViews.{tree_of};
 ghost use Rattle.list_read.specs.ListHeads.{place};

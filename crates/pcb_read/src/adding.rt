@@ -5,7 +5,7 @@ ghost use Rattle.board_items.specs.Boards.{with_item, is_admitted};
 ghost use Rattle.board_items.specs.ItemRefusals.{capacity_of};
 ghost use Rattle.sexpr_read.specs.TreeViews.{tree_of};
 ghost use Rattle.board_errors.specs.declared.errors.BoardError.{BoardError};
-ghost use Rattle.board_items.specs.declared.item.Item.{Item};
+ghost use Rattle.one_item.specs.declared.item.Item.{Item};
 ghost use Rattle.part_read.specs.NodeResults.{Gives};
 ghost use Rattle.part_read.specs.Graphics.{one_item};
 ghost use Rattle.part_read.specs.Ready.{IsReady, AreReady};

@@ -190,7 +190,8 @@ fn read_and_draft(
     answer
 }
 
-/// Reads the block that is ahead, and puts the next ahead: meanwhile, or behind the front, which may list the layers.
+/// Reads the block that is ahead, and drafts the next meanwhile. The first parts, which may list the layers, are read before any
+/// other block is drafted.
 fn read_next(
     rt: &(impl Threads + Sync),
     alloc: Global,

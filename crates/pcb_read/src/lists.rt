@@ -3,14 +3,14 @@
 ghost use Rattle.std.specs.Prelude.{◌≡◌, All, IfOk, Result, Ok};
 ghost use Rattle.sexpr_read.specs.TreeViews.{tree_of};
 ghost use Rattle.board_errors.specs.declared.errors.BoardError.{BoardError};
-ghost use Rattle.board_items.specs.declared.item.Item.{Item};
+ghost use Rattle.one_item.specs.declared.item.Item.{Item};
 ghost use Rattle.part_read.specs.NodeResults.{Gives};
 ghost use Rattle.part_read.specs.Lists.{GivesItems};
 ghost use Rattle.part_read.specs.Ready.{IsReady, AreReady};
 ghost use Rattle.part_read.specs.Graphics.{one_item, graphic_by, curve_by, text_by};
 ghost use Rattle.zone_read.specs.ZoneOf.{as_it_is};
 ghost use Rattle.pcb_read.specs.RelatedResults.{GivesSome};
-ghost use Rattle.pcb_read.specs.ItemsOf.{has_capacity, in_capacity, on_ground, SaysItems};
+ghost use Rattle.pcb_read.specs.ItemsOf.{has_capacity, in_capacity, by_layer_role, SaysItems};
 
 use crate::sorts::Sort;
 use crate::tracks::{track_of, via_of};
@@ -91,7 +91,7 @@ fn graphic_items(
     node: Node<'_, '_>,
 ) -> Result<Vec<Item>, BoardError>
     ensures items { GivesItems result
-        (in_capacity board.now unit (tree_of node.entry) (on_ground board.now
+        (in_capacity board.now unit (tree_of node.entry) (by_layer_role board.now
         (tree_of node.entry) (graphic_by board.now unit as_it_is kind (tree_of node.entry)))) }
     ensures ready { IfOk result (λ items. AreReady board.now unit items.items) }
 {
@@ -107,7 +107,7 @@ fn curve_items(
     node: Node<'_, '_>,
 ) -> Result<Vec<Item>, BoardError>
     ensures items { GivesItems result
-        (on_ground board.now (tree_of node.entry) (curve_by (tree_of node.entry))) }
+        (by_layer_role board.now (tree_of node.entry) (curve_by (tree_of node.entry))) }
     ensures ready { IfOk result (λ items. AreReady board.now unit items.items) }
 {
     let lies = layer_role_of(board.copper(), node)?;
@@ -122,7 +122,7 @@ fn text_items(
     node: Node<'_, '_>,
 ) -> Result<Vec<Item>, BoardError>
     ensures items { GivesItems result
-        (in_capacity board.now unit (tree_of node.entry) (on_ground board.now
+        (in_capacity board.now unit (tree_of node.entry) (by_layer_role board.now
         (tree_of node.entry) (text_by unit about (tree_of node.entry)))) }
     ensures ready { IfOk result (λ items. AreReady board.now unit items.items) }
 {

@@ -3,7 +3,7 @@ use Rattle.std.proofs.Common.{◌≡◌, ap, subst, ℕ, Bool, true, false, cond
 use Rattle.std.specs.Prelude.{⊤}
 use Rattle.sexpr_read.specs.Tree.{Forest, none, atom, list, Tree, leaf, branch, trees, parts}
 use Rattle.sexpr_read.specs.Spelling.{SpellsAll}
-use Rattle.board_items.specs.declared.item.Item.{Item}
+use Rattle.one_item.specs.declared.item.Item.{Item}
 use Rattle.board_items.specs.Boards.{PlainBoard}
 use Rattle.roundtrip_text.specs.RewrittenText.{IsRespelled, AreAtoms}
 use Rattle.roundtrip_text.specs.Utf8.{AreUtf8}

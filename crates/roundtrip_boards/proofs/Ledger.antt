@@ -8,19 +8,22 @@ use Rattle.std.proofs.lemmas.Bool.{eqb-true, eq-eqb}
 use Rattle.int_algebra.proofs.Tested.{front, back}
 use Rattle.roundtrip_lists.proofs.Shapes.{two_pass}
 use Rattle.std.proofs.lemmas.List.Elements.{filter-append}
-use Rattle.board_items.specs.declared.item.What.{What}
-use Rattle.board_items.specs.declared.item.What.TheVariants.{Track, Via, Pad, Graphic, Fill, Edge, Area, Body, Note}
-use Rattle.board_items.specs.declared.item.Item.{Item}
+use Rattle.one_item.specs.declared.item.What.{What}
+use Rattle.one_item.specs.declared.item.What.TheVariants.{Track, Via, Pad, Graphic, Fill, Edge, Area, Body, Note}
+use Rattle.one_item.specs.declared.item.Item.{Item}
 use Rattle.geo_seg.specs.declared.points.Point.{Point}
 use Rattle.geo_seg.specs.declared.shapes.Core.{Core}
 use Rattle.geo_seg.specs.declared.shapes.Core.TheVariants.{Line as LineCore, Area as AreaCore}
 use Rattle.geo_seg.specs.Shifts.{IsShiftedPoint, IsShiftedCore}
-use Rattle.board_items.specs.declared.parts.Part.{Part}
-use Rattle.board_items.specs.declared.item.Hole.{Hole}
-use Rattle.board_items.specs.Boards.{PlainBoard, with_item, is_near, is_on_board}
+use Rattle.one_item.specs.declared.parts.Part.{Part}
+use Rattle.one_item.specs.declared.item.Hole.{Hole}
+use Rattle.one_item.specs.Positions.{is_near, is_on_board}
+use Rattle.board_items.specs.Boards.{PlainBoard, with_item}
 use Rattle.pcb_read.specs.BoardOf.{with_items}
 use Rattle.board_items.specs.Units.{without_unit, first_named}
-use Rattle.board_items.specs.ItemMoves.{IsShiftedPart, AreShifted, HoleIsShifted, KindIsShifted, IsShiftedItem, is_note, moves, item_stays, unit_stays as units_stay, IsMovedEntry, IsMoved}
+use Rattle.one_item.specs.ItemMoves.{IsShiftedPart, AreShifted, HoleIsShifted, KindIsShifted, IsShiftedItem, item_stays}
+use Rattle.one_item.specs.ItemKinds.{is_note}
+use Rattle.board_items.specs.UnitMoves.{moves, unit_stays as units_stay, IsMovedEntry, IsMoved}
 use Rattle.roundtrip_lists.specs.Translated.{Shift}
 use Rattle.roundtrip_lists.specs.Carried.{shift_of, IsCarried, ItemsOf}
 use Rattle.roundtrip_lists.proofs.Composing.{carried_both}

@@ -3,7 +3,7 @@ use Rattle.std.proofs.Common.{◌≡◌, ◌∙◌, refl, sym, ap, subst, ℕ, �
 use Rattle.std.proofs.lemmas.Bool.{lt-ltb, le-leb}
 use Rattle.std.proofs.lemmas.List.{length-map}
 use Rattle.sexpr_read.specs.Tree.{Tree}
-use Rattle.board_items.specs.declared.item.Item.{Item}
+use Rattle.one_item.specs.declared.item.Item.{Item}
 use Rattle.board_items.specs.Boards.{PlainBoard, with_item}
 use Rattle.board_items.specs.ItemRefusals.{capacity_of}
 use Rattle.board_errors.specs.declared.errors.BoardError.{BoardError}
@@ -91,7 +91,7 @@ fresh_same a b h f = record { ids = h.ids ∙ f.ids ∙ sym (ap length h.items);
 
 -- ---- the parts
 
--- what is read of the other board: on the same ground, with these units
+-- what is read of the other board: with the same layers and nets, with these units
 pub record Reads (z y : Reading) (board : PlainBoard) (units : List (List Item)) : Type 0 where
   pub ground : SameLayersAndNets z.board y.board
   pub layered : y.layered ≡ z.layered
@@ -105,7 +105,7 @@ module _ (Carries : Sort → Tree → Tree → List Item → List Item → Type 
     (plain : (t u : Tree) → TranslatedTrees None t u → sort_of t ≡ sort_of u)
     (others : (t u : Tree) (a b next : Reading) → TranslatedTrees None t u → SameLayersAndNets a.board b.board → b.layered ≡ a.layered → with_other a t ≡ Ok next
     → (new : Reading) × (with_other b u ≡ Ok new) × SameLayersAndNets next.board new.board × (new.layered ≡ next.layered) × SameItems b.board new.board) where
-  -- a unit leaves the ground as it was
+  -- a unit leaves the layers and the nets as they were
   unit_ground : (a next : Reading) (t : Tree) (sort : Sort) → SaysPartBy a t (Some sort) (Ok next) → SameLayersAndNets a.board next.board × (next.layered ≡ a.layered)
   unit_ground a next t sort (board, (items, says, with), is) = by_items items board with is
     where

@@ -1,7 +1,7 @@
 -- What the lists that were added gave when they were added.
 use Rattle.std.specs.Prelude.{ℕ, suc, List, [], ◌∷◌, None, Some, Ok}
 use Rattle.sexpr_read.specs.Tree.{Tree}
-use Rattle.board_items.specs.declared.item.Item.{Item}
+use Rattle.one_item.specs.declared.item.Item.{Item}
 use Rattle.board_items.specs.Boards.{PlainBoard}
 use Rattle.pcb_read.specs.ItemText.{SaysList}
 use Rattle.roundtrip_boards.specs.Roots.{SameLayersAndNets}

@@ -1,7 +1,7 @@
 -- The units that a board's text gives, one entry for each, in order.
 use Rattle.std.specs.Prelude.{◌≡◌, ◌⊎◌, List, [], ◌∷◌, None, Some, Ok}
 use Rattle.sexpr_read.specs.Tree.{Tree}
-use Rattle.board_items.specs.declared.item.Item.{Item}
+use Rattle.one_item.specs.declared.item.Item.{Item}
 use Rattle.pcb_read.specs.declared.sorts.Sort.{Sort}
 use Rattle.pcb_read.specs.Sorts.{sort_of}
 use Rattle.pcb_read.specs.ItemsOf.{SaysItems}

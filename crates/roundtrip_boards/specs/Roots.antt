@@ -1,7 +1,7 @@
 -- How the parts of an edited board follow those of the board that it was.
 use Rattle.std.specs.Prelude.{◌≡◌, ℕ, ◌+◌, List, [], ◌∷◌, length, None, Some, Ok}
 use Rattle.sexpr_read.specs.Tree.{Tree}
-use Rattle.board_items.specs.declared.item.Item.{Item}
+use Rattle.one_item.specs.declared.item.Item.{Item}
 use Rattle.board_items.specs.Boards.{PlainBoard}
 use Rattle.roundtrip_lists.specs.Translated.{TranslatedTrees}
 use Rattle.roundtrip_lists.specs.Carried.{of_unit}

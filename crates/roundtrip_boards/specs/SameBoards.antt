@@ -1,7 +1,7 @@
 -- Boards that are the same but for ids and unit numbers.
 use Rattle.std.specs.Prelude.{◌≡◌, ℕ, List, ◌↔◌, Some, Ok}
 use Rattle.std.specs.List.{AllZip, slice_get}
-use Rattle.board_items.specs.declared.item.Item.{Item}
+use Rattle.one_item.specs.declared.item.Item.{Item}
 use Rattle.board_items.specs.Boards.{PlainBoard}
 use Rattle.pcb_read.specs.BoardText.{BoardSays}
 use Rattle.edit_script.specs.Commands.{PlainCommand}

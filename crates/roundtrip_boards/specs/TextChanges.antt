@@ -3,9 +3,9 @@ use Rattle.std.specs.Prelude.{◌≡◌, ℕ, List, [], ◌∷◌, true, Result,
 use Rattle.sexpr_read.specs.Tree.{Tree, parts}
 use Rattle.sexpr_read.specs.Spelling.{SpellsAll}
 use Rattle.board_items.specs.declared.found.Found.TheVariants.{Unit as OneUnit}
-use Rattle.board_items.specs.declared.item.Item.{Item}
+use Rattle.one_item.specs.declared.item.Item.{Item}
 use Rattle.board_items.specs.Boards.{PlainBoard}
-use Rattle.board_items.specs.ItemMoves.{unit_stays, IsMoved}
+use Rattle.board_items.specs.UnitMoves.{unit_stays, IsMoved}
 use Rattle.board_items.specs.Units.{without_unit, found_of}
 use Rattle.edit_script.specs.Commands.{PlainCommand, add, delete, move, rules, again}
 use Rattle.roundtrip_lists.specs.Translated.{Shift}

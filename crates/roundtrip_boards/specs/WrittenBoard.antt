@@ -5,7 +5,7 @@ use Rattle.sexpr_read.specs.declared.place.Span.{Span}
 use Rattle.sexpr_read.specs.Tree.{Forest, none, atom, list, Tree, leaf, branch, trees, parts, levels}
 use Rattle.sexpr_read.specs.Spelling.{Spells}
 use Rattle.sexpr_read.specs.TreeRefusals.{refusal_of_one}
-use Rattle.board_items.specs.declared.item.Item.{Item}
+use Rattle.one_item.specs.declared.item.Item.{Item}
 use Rattle.board_items.specs.Boards.{PlainBoard}
 use Rattle.list_read.specs.ListHeads.{first_is}
 use Rattle.roundtrip_text.specs.RewrittenText.{Disposition, stays, leaves, becomes, edited_whole}

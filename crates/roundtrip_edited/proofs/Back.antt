@@ -3,7 +3,7 @@ use Rattle.std.proofs.Common.{arith, ◌≡◌, ◌∙◌, refl, sym, ap, subst,
 use Rattle.sexpr_read.specs.declared.place.Span.{Span}
 use Rattle.sexpr_read.specs.Tree.{Forest, atom, Tree, branch, trees, parts, levels_in, levels}
 use Rattle.sexpr_read.specs.Spelling.{Spells}
-use Rattle.board_items.specs.declared.item.Item.{Item}
+use Rattle.one_item.specs.declared.item.Item.{Item}
 use Rattle.board_items.specs.Boards.{PlainBoard}
 use Rattle.roundtrip_text.specs.RewrittenText.{Disposition, FirstIsThere, insides, insides_after, edited_whole}
 use Rattle.roundtrip_text.specs.Edited.{SpellsEdited}

@@ -8,9 +8,9 @@ use Rattle.sexpr_read.specs.Tree.{Tree, parts}
 use Rattle.board_errors.specs.declared.errors.BoardError.{BoardError}
 use Rattle.board_errors.specs.declared.errors.BoardError.TheVariants.{OutOfBoard, ThickFill, TooMany}
 use Rattle.copper_layers.specs.declared.set.LayerSet.{LayerSet}
-use Rattle.board_items.specs.declared.item.Item.{Item}
+use Rattle.one_item.specs.declared.item.Item.{Item}
 use Rattle.board_items.specs.Boards.{PlainBoard}
-use Rattle.board_items.specs.ItemMoves.{IsMovedEntry}
+use Rattle.board_items.specs.UnitMoves.{IsMovedEntry}
 use Rattle.board_items.specs.ItemRefusals.{capacity_of}
 use Rattle.part_read.specs.declared.graphics.LayerRole.{LayerRole}
 use Rattle.part_read.specs.declared.graphics.LayerRole.TheVariants.{Copper, Outlines, Front, Back, Elsewhere}
@@ -28,7 +28,7 @@ use Rattle.pcb_read.specs.declared.sorts.Sort.{Sort}
 use Rattle.pcb_read.specs.declared.sorts.Sort.TheVariants.{Track, Via, Arc, Graphic, Curve, Text, Zone, Footprint}
 use Rattle.pcb_read.specs.Sorts.{sort_of}
 use Rattle.pcb_read.specs.Tracks.{track_of, via_of}
-use Rattle.pcb_read.specs.ItemsOf.{SaysItems, has_capacity, in_capacity, on_ground}
+use Rattle.pcb_read.specs.ItemsOf.{SaysItems, has_capacity, in_capacity, by_layer_role}
 use Rattle.pcb_read.specs.ItemText.{SaysBy}
 use Rattle.pcb_read.specs.BoardOf.{Reading, with_items, SaysPartBy, SaysParts}
 use Rattle.roundtrip_boards.specs.TextChanges.{Change, unchanged, takes_out, shifts, appends, Changes, ChangeAll}
@@ -125,9 +125,9 @@ list_few : (board : PlainBoard) (unit : ℕ) (t : Tree) (sort : Sort) (items : L
 list_few board unit t Track items h = in_few board unit t (one_item (track_of board unit t)) items h
 list_few board unit t Via items h = in_few board unit t (one_item (via_of board unit t)) items h
 list_few board unit t Arc items h = absurd cc
-list_few board unit t (Graphic kind) items h = in_few board unit t (on_ground board t (graphic_by board unit as_it_is kind t)) items h
+list_few board unit t (Graphic kind) items h = in_few board unit t (by_layer_role board t (graphic_by board unit as_it_is kind t)) items h
 list_few board unit t Curve items h = let a = both_ok (layer_role_of board.copper t) (curve_by t) items (sym h) in curve_few board t a.0 items a.1.1
-list_few board unit t (Text about) items h = in_few board unit t (on_ground board t (text_by unit about t)) items h
+list_few board unit t (Text about) items h = in_few board unit t (by_layer_role board t (text_by unit about t)) items h
 list_few board unit t Zone items h = zone_few board unit t items (sym h)
 list_few board unit t Footprint items h = foot_few board unit t items h
 

@@ -4,10 +4,10 @@ use Rattle.std.specs.List.{AllZip}
 use Rattle.std.proofs.lemmas.Bool.{leb-true, ltb-true, and_parts}
 use Rattle.sexpr_read.specs.declared.place.Span.{Span}
 use Rattle.sexpr_read.specs.Tree.{Forest, none, atom, list, Tree, leaf, branch, trees}
-use Rattle.board_items.specs.declared.item.Item.{Item}
+use Rattle.one_item.specs.declared.item.Item.{Item}
 use Rattle.board_items.specs.Boards.{PlainBoard}
 use Rattle.board_items.specs.ItemRefusals.{capacity_of}
-use Rattle.board_items.specs.declared.item.About.TheVariants.{Text as OfText, Dimension as OfDimension}
+use Rattle.one_item.specs.declared.item.About.TheVariants.{Text as OfText, Dimension as OfDimension}
 use Rattle.part_read.specs.declared.drawings.GraphicKind.TheVariants.{Line, Rect, Circle, Outline}
 use Rattle.list_read.specs.ListHeads.{is_text, first_is}
 use Rattle.roundtrip_text.specs.Pieces.{SameTrees}

@@ -4,7 +4,7 @@ use Rattle.std.specs.Prelude.{⊤}
 use Rattle.std.proofs.lemmas.List.Elements.{All-head, All-tail}
 use Rattle.sexpr_read.specs.Tree.{Forest, none, atom, list, Tree, leaf, branch, trees, parts, levels_in, levels}
 use Rattle.sexpr_read.specs.Spelling.{SpellsAll}
-use Rattle.board_items.specs.declared.item.Item.{Item}
+use Rattle.one_item.specs.declared.item.Item.{Item}
 use Rattle.edit_script.specs.Commands.{PlainCommand, add, delete, move, rules, again}
 use Rattle.edit_script.specs.Fits.{IsShallow, IsShallowIfAdded, AreShallow}
 use Rattle.board_edits.specs.declared.refusal.Refusal.{Refusal}

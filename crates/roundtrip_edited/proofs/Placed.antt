@@ -5,8 +5,8 @@ use Rattle.sexpr_read.specs.Tree.{Tree, parts}
 use Rattle.board_errors.specs.declared.errors.BoardError.{BoardError}
 use Rattle.board_errors.specs.declared.errors.BoardError.TheVariants.{OutOfBoard, ThickFill, TooMany}
 use Rattle.copper_layers.specs.declared.set.LayerSet.{LayerSet}
-use Rattle.board_items.specs.declared.item.What.TheVariants.{Fill, Area}
-use Rattle.board_items.specs.declared.item.Item.{Item}
+use Rattle.one_item.specs.declared.item.What.TheVariants.{Fill, Area}
+use Rattle.one_item.specs.declared.item.Item.{Item}
 use Rattle.copper_layers.specs.Layers.{single_layer}
 use Rattle.board_items.specs.Boards.{PlainBoard}
 use Rattle.part_read.specs.declared.on_board.Strip.{Strip}
@@ -35,7 +35,7 @@ use Rattle.pcb_read.specs.declared.items.ViaForm.{ViaForm}
 use Rattle.pcb_read.specs.declared.sorts.Sort.{Sort}
 use Rattle.pcb_read.specs.declared.sorts.Sort.TheVariants.{Track, Via, Arc, Graphic, Curve, Text, Zone, Footprint}
 use Rattle.pcb_read.specs.Tracks.{track_along, track_of, disc, is_hole, is_via, via_at, via_of}
-use Rattle.pcb_read.specs.ItemsOf.{SaysItems, on_ground}
+use Rattle.pcb_read.specs.ItemsOf.{SaysItems, by_layer_role}
 use Rattle.roundtrip_edited.specs.Footprints.{is_footprint}
 use Rattle.roundtrip_edited.proofs.Units.{found_in_capacity}
 
@@ -134,7 +134,7 @@ zone_stands board unit tree items h =
 
 -- ---- lists of each sort but footprints
 
-layer_role_stands : (board : PlainBoard) (unit : ℕ) (tree : Tree) (given : LayerRole → Result (List Item) BoardError) (items : List Item) → ((lies : LayerRole) → given lies ≡ Ok items → ItemsOf unit items) → on_ground board tree given ≡ Ok items → ItemsOf unit items
+layer_role_stands : (board : PlainBoard) (unit : ℕ) (tree : Tree) (given : LayerRole → Result (List Item) BoardError) (items : List Item) → ((lies : LayerRole) → given lies ≡ Ok items → ItemsOf unit items) → by_layer_role board tree given ≡ Ok items → ItemsOf unit items
 layer_role_stands board unit tree given items law h = let a = both_ok (layer_role_of board.copper tree) given items h in law a.0 a.1.1
 
 pub list_stands : (board : PlainBoard) (unit : ℕ) (tree : Tree) (sort : Sort) (items : List Item) → is_footprint sort ≡ false → SaysItems board unit tree sort (Ok items) → ItemsOf unit items
@@ -145,9 +145,9 @@ list_stands board unit tree Via items e h =
 list_stands board unit tree Arc items e h = absurd cc
 list_stands board unit tree (Graphic kind) items e h =
     layer_role_stands board unit tree (graphic_by board unit as_it_is kind tree) items (λ lies k. graphic_of board unit as_it_is kind tree lies items k)
-    (found_in_capacity board unit tree (on_ground board tree (graphic_by board unit as_it_is kind tree)) items h)
+    (found_in_capacity board unit tree (by_layer_role board tree (graphic_by board unit as_it_is kind tree)) items h)
 list_stands board unit tree Curve items e h = layer_role_stands board unit tree (curve_by tree) items (λ lies k. curve_of_unit unit tree lies items k) (sym h)
 list_stands board unit tree (Text about) items e h =
-    layer_role_stands board unit tree (text_by unit about tree) items (λ lies k. text_of_unit unit about tree lies items k) (found_in_capacity board unit tree (on_ground board tree (text_by unit about tree)) items h)
+    layer_role_stands board unit tree (text_by unit about tree) items (λ lies k. text_of_unit unit about tree lies items k) (found_in_capacity board unit tree (by_layer_role board tree (text_by unit about tree)) items h)
 list_stands board unit tree Zone items e h = zone_stands board unit tree items (sym h)
 list_stands board unit tree Footprint items e h = absurd cc

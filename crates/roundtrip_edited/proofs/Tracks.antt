@@ -11,13 +11,14 @@ use Rattle.geo_seg.specs.Shifts.{IsShiftedCore, IsShiftedShape}
 use Rattle.board_errors.specs.declared.errors.BoardError.{BoardError}
 use Rattle.board_errors.specs.declared.errors.BoardError.TheVariants.{OutOfBoard}
 use Rattle.copper_layers.specs.declared.set.LayerSet.{LayerSet}
-use Rattle.board_items.specs.declared.parts.Part.{Part}
-use Rattle.board_items.specs.declared.item.Hole.{Hole}
-use Rattle.board_items.specs.declared.item.What.TheVariants.{Track}
-use Rattle.board_items.specs.declared.item.Item.{Item}
-use Rattle.board_items.specs.ItemMoves.{AreShifted, HoleIsShifted}
+use Rattle.one_item.specs.declared.parts.Part.{Part}
+use Rattle.one_item.specs.declared.item.Hole.{Hole}
+use Rattle.one_item.specs.declared.item.What.TheVariants.{Track}
+use Rattle.one_item.specs.declared.item.Item.{Item}
+use Rattle.one_item.specs.ItemMoves.{AreShifted, HoleIsShifted}
 use Rattle.copper_layers.specs.Layers.{single_layer}
-use Rattle.board_items.specs.Boards.{PlainBoard, name_of, is_near}
+use Rattle.one_item.specs.Positions.{is_near}
+use Rattle.board_items.specs.Boards.{PlainBoard, name_of}
 use Rattle.part_read.specs.declared.numbers.RawPoint.{RawPoint}
 use Rattle.part_read.specs.declared.on_board.Strip.{Strip}
 use Rattle.list_read.specs.FirstRefusals.{needed}

@@ -5,7 +5,7 @@ use Rattle.sexpr_read.specs.declared.place.Span.{Span}
 use Rattle.sexpr_read.specs.Tree.{Forest, Tree, branch}
 use Rattle.board_errors.specs.declared.errors.BoardError.{BoardError}
 use Rattle.board_errors.specs.declared.errors.BoardError.TheVariants.{TooMany}
-use Rattle.board_items.specs.declared.item.Item.{Item}
+use Rattle.one_item.specs.declared.item.Item.{Item}
 use Rattle.board_items.specs.Boards.{PlainBoard, name_of}
 use Rattle.list_read.specs.FirstRefusals.{◌>>=◌, check}
 use Rattle.list_read.specs.ListHeads.{place}
@@ -14,7 +14,7 @@ use Rattle.roundtrip_lists.specs.Translated.{Shift, Translated}
 use Rattle.roundtrip_lists.specs.Carried.{shift_of, Becomes, of_unit, IfAccepted, ReadsItems}
 use Rattle.pcb_read.specs.declared.sorts.Sort.TheVariants.{Track, Via, Arc, Graphic, Curve, Text}
 use Rattle.pcb_read.specs.Tracks.{track_of, via_of}
-use Rattle.pcb_read.specs.ItemsOf.{SaysItems, in_capacity, has_capacity, on_ground}
+use Rattle.pcb_read.specs.ItemsOf.{SaysItems, in_capacity, has_capacity, by_layer_role}
 use Rattle.roundtrip_boards.specs.Roots.{SameLayersAndNets}
 use Rattle.zone_read.specs.ZoneOf.{as_it_is}
 use Rattle.roundtrip_lists.proofs.Drawn.{Placements, radius_moved}
@@ -27,9 +27,9 @@ use Rattle.part_read.specs.declared.drawings.GraphicKind.{GraphicKind}
 use Rattle.part_read.specs.declared.graphics.LayerRole.{LayerRole}
 use Rattle.part_read.specs.Graphics.{layer_role_of}
 use Rattle.part_read.specs.Placements.{stood}
-use Rattle.board_items.specs.declared.item.About.{About}
+use Rattle.one_item.specs.declared.item.About.{About}
 use Rattle.copper_layers.specs.declared.set.LayerSet.{LayerSet}
-use Rattle.board_items.specs.Boards.{is_near}
+use Rattle.one_item.specs.Positions.{is_near}
 use Rattle.std.proofs.lemmas.Int.{ints}
 use Rattle.std.proofs.Common.{arith, pos, ◌+ℤ◌}
 use Rattle.roundtrip_edited.proofs.Tracks.{track_carried}
@@ -59,7 +59,7 @@ module _ (board other : PlainBoard) (unit own : ℕ) (t u : Tree) (d : Shift) (a
   pub capacity_carried : Ok items ≡ in_capacity board unit t answer → has_capacity other own (of_unit own now) ≡ true → Ok (of_unit own now) ≡ in_capacity other own u again
   capacity_carried says capacity = in_capacity_found other own u again (of_unit own now) (read_again (found_in_capacity board unit t answer items says)) capacity
 
--- nothing is turned or moved but the spots themselves
+-- nothing is turned or moved but the points themselves
 stood_there : (s : RawPoint) → stood as_it_is s ≡ s
 stood_there s = ap (λ (z : ℤ). let r : RawPoint = record { x = z; y = pos 0 +ℤ s.y } in r) (zero_plus s.x) ∙ ap (λ (z : ℤ). let r : RawPoint = record { x = s.x; y = z } in r) (zero_plus s.y)
   where
@@ -99,26 +99,26 @@ module _ (o : Option Shift) (board other : PlainBoard) (unit own : ℕ) (i j : F
   pub arcs_carried : SaysItems board unit one Arc (Ok items) → SaysItems other own two Arc (Ok (of_unit own now))
   arcs_carried says = absurd cc
 
-  -- by the ground on which both lie
-  on_grounds : (given after : LayerRole → Result (List Item) BoardError) → ((lies : LayerRole) → IfAccepted (ReadsItems (shift_of o) own) (given lies) (after lies))
-      → IfAccepted (ReadsItems (shift_of o) own) (on_ground board one given) (on_ground other two after)
-  on_grounds given after law =
+  -- by the role of the layer on which both lie
+  by_layer_roles : (given after : LayerRole → Result (List Item) BoardError) → ((lies : LayerRole) → IfAccepted (ReadsItems (shift_of o) own) (given lies) (after lies))
+      → IfAccepted (ReadsItems (shift_of o) own) (by_layer_role board one given) (by_layer_role other two after)
+  by_layer_roles given after law =
       leads_bind Same (ReadsItems (shift_of o) own) (layer_role_of board.copper one) (layer_role_of other.copper two) given after
       (subst (λ (l : LayerSet). Agrees Same (layer_role_of board.copper one) (layer_role_of l two)) (sym ground.copper) (layer_role_translated o board.copper i j s r translated))
       (λ v w e. subst (λ (z : LayerRole). IfAccepted (ReadsItems (shift_of o) own) (given v) (after z)) (sym e) (law v))
 
   pub graphics_carried : (kind : GraphicKind) → SaysItems board unit one (Graphic kind) (Ok items) → has_capacity other own (of_unit own now) ≡ true → SaysItems other own two (Graphic kind) (Ok (of_unit own now))
   graphics_carried kind says capacity =
-      let law = on_grounds (graphic_by board unit as_it_is kind one) (graphic_by other own as_it_is kind two)
+      let law = by_layer_roles (graphic_by board unit as_it_is kind one) (graphic_by other own as_it_is kind two)
       (λ lies. graphic_carried o (shift_of o) as_it_is as_it_is (as_they_are o) board other (same_nets board other ground) unit own kind i j s r translated lies) in
-      capacity_carried board other unit own one two (shift_of o) (on_ground board one (graphic_by board unit as_it_is kind one)) (on_ground other two (graphic_by other own as_it_is kind two)) law items now become says capacity
+      capacity_carried board other unit own one two (shift_of o) (by_layer_role board one (graphic_by board unit as_it_is kind one)) (by_layer_role other two (graphic_by other own as_it_is kind two)) law items now become says capacity
 
   pub curves_carried : SaysItems board unit one Curve (Ok items) → SaysItems other own two Curve (Ok (of_unit own now))
   curves_carried says =
-      let law = on_grounds (curve_by one) (curve_by two) (λ lies. curve_carried (shift_of o) own one two lies) in
-      sym (read_again board other unit own one two (shift_of o) (on_ground board one (curve_by one)) (on_ground other two (curve_by two)) law items now become (sym says))
+      let law = by_layer_roles (curve_by one) (curve_by two) (λ lies. curve_carried (shift_of o) own one two lies) in
+      sym (read_again board other unit own one two (shift_of o) (by_layer_role board one (curve_by one)) (by_layer_role other two (curve_by two)) law items now become (sym says))
 
   pub texts_carried : (about : About) → SaysItems board unit one (Text about) (Ok items) → has_capacity other own (of_unit own now) ≡ true → SaysItems other own two (Text about) (Ok (of_unit own now))
   texts_carried about says capacity =
-      let law = on_grounds (text_by unit about one) (text_by own about two) (λ lies. text_carried o (shift_of o) own unit about i j s r lies translated) in
-      capacity_carried board other unit own one two (shift_of o) (on_ground board one (text_by unit about one)) (on_ground other two (text_by own about two)) law items now become says capacity
+      let law = by_layer_roles (text_by unit about one) (text_by own about two) (λ lies. text_carried o (shift_of o) own unit about i j s r lies translated) in
+      capacity_carried board other unit own one two (shift_of o) (by_layer_role board one (text_by unit about one)) (by_layer_role other two (text_by own about two)) law items now become says capacity

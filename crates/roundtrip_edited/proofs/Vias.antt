@@ -8,11 +8,11 @@ use Rattle.geo_seg.specs.declared.shapes.Shape.{Shape}
 use Rattle.board_errors.specs.declared.errors.BoardError.{BoardError}
 use Rattle.board_errors.specs.declared.errors.BoardError.TheVariants.{OutOfBoard}
 use Rattle.copper_layers.specs.declared.set.LayerSet.{LayerSet}
-use Rattle.board_items.specs.declared.parts.Part.{Part}
-use Rattle.board_items.specs.declared.item.Hole.{Hole}
-use Rattle.board_items.specs.declared.item.What.TheVariants.{Via}
-use Rattle.board_items.specs.declared.item.Item.{Item}
-use Rattle.board_items.specs.ItemMoves.{AreShifted, HoleIsShifted}
+use Rattle.one_item.specs.declared.parts.Part.{Part}
+use Rattle.one_item.specs.declared.item.Hole.{Hole}
+use Rattle.one_item.specs.declared.item.What.TheVariants.{Via}
+use Rattle.one_item.specs.declared.item.Item.{Item}
+use Rattle.one_item.specs.ItemMoves.{AreShifted, HoleIsShifted}
 use Rattle.board_items.specs.Boards.{PlainBoard, name_of}
 use Rattle.part_read.specs.declared.numbers.RawPoint.{RawPoint}
 use Rattle.list_read.specs.FirstRefusals.{needed}

@@ -15,15 +15,17 @@ use Rattle.geo_seg.specs.Shifts.{IsShiftedShape, IsShiftedCore}
 use Rattle.board_errors.specs.declared.errors.BoardError.{BoardError}
 use Rattle.board_errors.specs.declared.errors.BoardError.TheVariants.{Missing, OutOfBoard, ThickFill, TooMany}
 use Rattle.copper_layers.specs.declared.set.LayerSet.{LayerSet}
-use Rattle.board_items.specs.declared.parts.Part.{Part}
-use Rattle.board_items.specs.declared.item.Bans.{Bans}
-use Rattle.board_items.specs.declared.item.Hole.{Hole}
-use Rattle.board_items.specs.declared.item.What.TheVariants.{Fill, Area}
-use Rattle.board_items.specs.declared.item.Item.{Item}
+use Rattle.one_item.specs.declared.parts.Part.{Part}
+use Rattle.one_item.specs.declared.item.Bans.{Bans}
+use Rattle.one_item.specs.declared.item.Hole.{Hole}
+use Rattle.one_item.specs.declared.item.What.TheVariants.{Fill, Area}
+use Rattle.one_item.specs.declared.item.Item.{Item}
 use Rattle.copper_layers.specs.Layers.{single_layer}
-use Rattle.board_items.specs.Boards.{PlainBoard, name_of, is_near, is_on_board}
+use Rattle.one_item.specs.Positions.{is_near, is_on_board}
+use Rattle.board_items.specs.Boards.{PlainBoard, name_of}
 use Rattle.board_items.specs.ItemRefusals.{capacity_of}
-use Rattle.board_items.specs.ItemMoves.{AreShifted, HoleIsShifted, is_note}
+use Rattle.one_item.specs.ItemMoves.{AreShifted, HoleIsShifted}
+use Rattle.one_item.specs.ItemKinds.{is_note}
 use Rattle.part_read.specs.declared.numbers.RawPoint.{RawPoint}
 use Rattle.list_read.specs.FirstRefusals.{◌>>=◌, needed, check}
 use Rattle.list_read.specs.ListHeads.{place, has_head}

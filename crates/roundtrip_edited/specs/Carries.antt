@@ -3,7 +3,7 @@ use Rattle.std.specs.Prelude.{◌≡◌, List, Option, Some}
 use Rattle.std.specs.List.{AllZip}
 use Rattle.sexpr_read.specs.declared.place.Span.{Span}
 use Rattle.sexpr_read.specs.Tree.{Forest, Tree, branch}
-use Rattle.board_items.specs.declared.item.Item.{Item}
+use Rattle.one_item.specs.declared.item.Item.{Item}
 use Rattle.roundtrip_text.specs.Pieces.{SameTrees}
 use Rattle.roundtrip_lists.specs.Translated.{Shift}
 use Rattle.roundtrip_lists.specs.Carried.{shift_of, Becomes}

@@ -9,12 +9,13 @@ use Rattle.sexpr_read.specs.Tree.{Forest, Tree, branch, parts}
 use Rattle.board_errors.specs.declared.errors.BoardError.{BoardError}
 use Rattle.board_errors.specs.declared.errors.BoardError.TheVariants.{OutOfBoard, TooMany}
 use Rattle.copper_layers.specs.declared.set.LayerSet.{LayerSet}
-use Rattle.board_items.specs.declared.parts.Part.{Part}
-use Rattle.board_items.specs.declared.item.About.TheVariants.{Courtyard}
-use Rattle.board_items.specs.declared.item.What.TheVariants.{Body}
-use Rattle.board_items.specs.declared.item.Item.{Item}
-use Rattle.board_items.specs.Boards.{PlainBoard, name_of, is_near}
-use Rattle.board_items.specs.ItemMoves.{AreShifted}
+use Rattle.one_item.specs.declared.parts.Part.{Part}
+use Rattle.one_item.specs.declared.item.About.TheVariants.{Courtyard}
+use Rattle.one_item.specs.declared.item.What.TheVariants.{Body}
+use Rattle.one_item.specs.declared.item.Item.{Item}
+use Rattle.one_item.specs.Positions.{is_near}
+use Rattle.board_items.specs.Boards.{PlainBoard, name_of}
+use Rattle.one_item.specs.ItemMoves.{AreShifted}
 use Rattle.board_items.specs.ItemRefusals.{capacity_of}
 use Rattle.part_read.specs.declared.numbers.RawPoint.{RawPoint}
 use Rattle.list_read.specs.FirstRefusals.{◌>>=◌, check}

@@ -6,8 +6,8 @@ use Rattle.std.proofs.lemmas.List.{map-append}
 use Rattle.sexpr_read.specs.declared.place.Span.{Span}
 use Rattle.sexpr_read.specs.Tree.{Forest, none, atom, list, Tree, leaf, branch, trees}
 use Rattle.board_errors.specs.declared.errors.BoardError.{BoardError}
-use Rattle.board_items.specs.declared.item.About.TheVariants.{Text, FootZone}
-use Rattle.board_items.specs.declared.item.Item.{Item}
+use Rattle.one_item.specs.declared.item.About.TheVariants.{Text, FootZone}
+use Rattle.one_item.specs.declared.item.Item.{Item}
 use Rattle.board_items.specs.Boards.{PlainBoard, name_of}
 use Rattle.part_read.specs.declared.drawings.GraphicKind.{GraphicKind}
 use Rattle.part_read.specs.declared.drawings.GraphicKind.TheVariants.{Line, Rect, Circle, Outline}

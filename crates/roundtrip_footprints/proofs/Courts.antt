@@ -10,8 +10,8 @@ use Rattle.geo_seg.specs.declared.shapes.Core.TheVariants.{Line as LineCore, Are
 use Rattle.geo_seg.specs.declared.shapes.Shape.{Shape}
 use Rattle.geo_seg.specs.Shifts.{IsShiftedPoint, IsShiftedCore}
 use Rattle.copper_layers.specs.declared.set.LayerSet.{LayerSet}
-use Rattle.board_items.specs.declared.parts.Part.{Part}
-use Rattle.board_items.specs.ItemMoves.{AreShifted, IsShiftedPart}
+use Rattle.one_item.specs.declared.parts.Part.{Part}
+use Rattle.one_item.specs.ItemMoves.{AreShifted, IsShiftedPart}
 use Rattle.part_read.specs.declared.numbers.RawPoint.{RawPoint}
 use Rattle.part_read.specs.declared.placements.Placement.{Placement}
 use Rattle.part_read.specs.declared.radii.Radius.{Radius}
@@ -28,7 +28,7 @@ use Rattle.roundtrip_lists.specs.ListMoves.{IsShiftedSeg, AreShiftedSegs, HasPoi
 use Rattle.roundtrip_lists.proofs.CourtMoving.{beyond, same_moved, chained_moved}
 use Rattle.roundtrip_lists.proofs.Cornering.{has_corner}
 use Rattle.footprint_read.specs.declared.sides.CourtSide.{CourtSide}
-use Rattle.footprint_read.specs.declared.sides.Course.{Course}
+use Rattle.footprint_read.specs.declared.sides.RawSegment.{RawSegment}
 use Rattle.footprint_read.specs.declared.courts.Court.{Court}
 use Rattle.footprint_read.specs.declared.courts.Court.TheVariants.{Unchecked, Parts, Off}
 use Rattle.footprint_read.specs.Courtyards.{at, is_long, ends_at, many_at, is_met, is_closed, line_to, seg_of, segs_of, figure_parts, outline_part, HasParts, IsCourt, parts_in, lies_on_board}
@@ -49,10 +49,10 @@ no_layers = record { bits = 0 }
 -- ---- lines that are closed
 
 module _ (d : Shift) where
-  long_moved : (line : Course) → is_long (moved_course d line) ≡ is_long line
+  long_moved : (line : RawSegment) → is_long (moved_course d line) ≡ is_long line
   long_moved line = ap not (same_moved d.dx d.dy (at line.a) (at line.b))
 
-  ends_moved : (k : ℤ × ℤ) (line : Course) → ends_at (beyond d.dx d.dy k) (moved_course d line) ≡ ends_at k line
+  ends_moved : (k : ℤ × ℤ) (line : RawSegment) → ends_at (beyond d.dx d.dy k) (moved_course d line) ≡ ends_at k line
   ends_moved k line =
       ap (λ (b : Bool). by_ends b (is_same (at (moved_raw_point d line.a)) (beyond d.dx d.dy k)) (is_same (at (moved_raw_point d line.b)) (beyond d.dx d.dy k))) (long_moved line)
       ∙ ap (λ (b : Bool). by_ends (is_long line) b (is_same (at (moved_raw_point d line.b)) (beyond d.dx d.dy k))) (same_moved d.dx d.dy (at line.a) k)
@@ -61,23 +61,23 @@ module _ (d : Shift) where
       by_ends : Bool → Bool → Bool → ℕ
       by_ends long first second = cond long (cond first 1 0 + cond second 1 0) 0
 
-  many_moved : (k : ℤ × ℤ) (lines : List Course) → many_at (beyond d.dx d.dy k) (map (moved_course d) lines) ≡ many_at k lines
+  many_moved : (k : ℤ × ℤ) (lines : List RawSegment) → many_at (beyond d.dx d.dy k) (map (moved_course d) lines) ≡ many_at k lines
   many_moved k [] = refl
   many_moved k (line ∷ lines) =
       ap (λ (n : ℕ). n + many_at (beyond d.dx d.dy k) (map (moved_course d) lines)) (ends_moved k line) ∙ ap (λ (n : ℕ). ends_at k line + n) (many_moved k lines)
 
-  met_moved : (lines : List Course) (line : Course) → is_met (map (moved_course d) lines) (moved_course d line) ≡ is_met lines line
+  met_moved : (lines : List RawSegment) (line : RawSegment) → is_met (map (moved_course d) lines) (moved_course d line) ≡ is_met lines line
   met_moved lines line =
       ap (λ (b : Bool). not b || (many_at (at (moved_raw_point d line.a)) (map (moved_course d) lines) == 2 && many_at (at (moved_raw_point d line.b)) (map (moved_course d) lines) == 2)) (long_moved line)
       ∙ ap (λ (n : ℕ). not (is_long line) || (n == 2 && many_at (at (moved_raw_point d line.b)) (map (moved_course d) lines) == 2)) (many_moved (at line.a) lines)
       ∙ ap (λ (n : ℕ). not (is_long line) || (many_at (at line.a) lines == 2 && n == 2)) (many_moved (at line.b) lines)
 
-  all_met : (lines some : List Course) → list_all (is_met (map (moved_course d) lines)) (map (moved_course d) some) ≡ list_all (is_met lines) some
+  all_met : (lines some : List RawSegment) → list_all (is_met (map (moved_course d) lines)) (map (moved_course d) some) ≡ list_all (is_met lines) some
   all_met lines [] = refl
   all_met lines (line ∷ some) =
       ap (λ (b : Bool). b && list_all (is_met (map (moved_course d) lines)) (map (moved_course d) some)) (met_moved lines line) ∙ ap (λ (b : Bool). is_met lines line && b) (all_met lines some)
 
-  closed_same : (lines : List Course) → is_closed (map (moved_course d) lines) ≡ is_closed lines
+  closed_same : (lines : List RawSegment) → is_closed (map (moved_course d) lines) ≡ is_closed lines
   closed_same lines = all_met lines lines
 
   -- ---- figures
@@ -186,7 +186,7 @@ module _ (d : Shift) where
   twice_same : (a b : ℤ) → int_eq (pos 2 *ℤ a) (pos 2 *ℤ b) ≡ int_eq a b
   twice_same a b = grind (arith, ints)
 
-  not_short : (line : Course) (fa : fits_board line.a ≡ true) (fb : fits_board line.b ≡ true) → is_long line ≡ true → is_short (record { a = point_at line.a fa; b = point_at line.b fb }) ≡ false
+  not_short : (line : RawSegment) (fa : fits_board line.a ≡ true) (fb : fits_board line.b ≡ true) → is_long line ≡ true → is_short (record { a = point_at line.a fa; b = point_at line.b fb }) ≡ false
   not_short line fa fb long =
       ap (λ (b : Bool). b && int_eq (pos 2 *ℤ line.a.y) (pos 2 *ℤ line.b.y)) (twice_same line.a.x line.b.x) ∙ ap (λ (b : Bool). int_eq line.a.x line.b.x && b) (twice_same line.a.y line.b.y)
       ∙ is_false (is_same (at line.a) (at line.b)) long
@@ -195,7 +195,7 @@ module _ (d : Shift) where
       is_false true e = absurd cc
       is_false false e = refl
 
-  -- the point of a spot of which the moved one stays
+  -- the point of a place of which the moved one stays
   record PointAgain (s : RawPoint) (p : Point) : Type 0 where
     point : Point
     there : tested (fits_board (moved_raw_point d s)) (point_at (moved_raw_point d s)) ≡ Some point
@@ -214,12 +214,12 @@ module _ (d : Shift) where
         shifted = record { x = k.x; y = k.y };
       }
 
-  record SegMade (line : Course) (seg : Seg) : Type 0 where
+  record SegMade (line : RawSegment) (seg : Seg) : Type 0 where
     fits_a : fits_board line.a ≡ true
     fits_b : fits_board line.b ≡ true
     is : record { a = point_at line.a fits_a; b = point_at line.b fits_b } ≡ seg
 
-  seg_made : (line : Course) (seg : Seg) → seg_of line ≡ Some seg → SegMade line seg
+  seg_made : (line : RawSegment) (seg : Seg) → seg_of line ≡ Some seg → SegMade line seg
   seg_made line seg h =
       let k = both_some line_to (tested (fits_board line.a) (point_at line.a)) (tested (fits_board line.b) (point_at line.b)) seg h in
       let a = tested_some (fits_board line.a) (point_at line.a) k.0 k.2 in
@@ -230,7 +230,7 @@ module _ (d : Shift) where
         is = ap (λ (p : Point). let s : Seg = record { a = p; b = point_at line.b b.0 } in s) a.1 ∙ ap (λ (p : Point). let s : Seg = record { a = k.0; b = p } in s) b.1 ∙ sym k.4;
       }
 
-  seg_again : (line : Course) (seg : Seg) → is_long line ≡ true → seg_of line ≡ Some seg → (is_short seg ≡ false → StaysThere (raw_point_of_point seg.a) × StaysThere (raw_point_of_point seg.b)) → (other : Seg) × (seg_of (moved_course d line) ≡ Some other) × IsShiftedSeg ddx ddy seg other
+  seg_again : (line : RawSegment) (seg : Seg) → is_long line ≡ true → seg_of line ≡ Some seg → (is_short seg ≡ false → StaysThere (raw_point_of_point seg.a) × StaysThere (raw_point_of_point seg.b)) → (other : Seg) × (seg_of (moved_course d line) ≡ Some other) × IsShiftedSeg ddx ddy seg other
   seg_again line seg long some stays =
       let k = seg_made line seg some in
       by_made k.fits_a k.fits_b k.is
@@ -246,7 +246,7 @@ module _ (d : Shift) where
             subst (λ (s : Seg). IsShiftedSeg ddx ddy s (record { a = a.point; b = b.point })) is (a.shifted, b.shifted),
           )
 
-  record SegsAgain (lines : List Course) (segs : List Seg) : Type 0 where
+  record SegsAgain (lines : List RawSegment) (segs : List Seg) : Type 0 where
     others : List Seg
     there : segs_of (map (moved_course d) lines) ≡ Some others
     shifted : AreShiftedSegs ddx ddy segs others
@@ -254,7 +254,7 @@ module _ (d : Shift) where
   abbrev put : Seg → List Seg → List Seg
   put seg segs = seg ∷ segs
 
-  segs_again : (lines : List Course) (segs : List Seg) → segs_of lines ≡ Some segs → EndsStay segs → SegsAgain lines segs
+  segs_again : (lines : List RawSegment) (segs : List Seg) → segs_of lines ≡ Some segs → EndsStay segs → SegsAgain lines segs
   segs_again [] segs some stays = subst (SegsAgain []) (some_same some) (record { others = []; there = refl; shifted = tt })
   segs_again (line ∷ lines) segs some stays = by_long (is_long line) refl some (λ rest e s. segs_again lines rest e s)
     where

@@ -7,8 +7,8 @@ use Rattle.int_algebra.proofs.Tested.{front as first_holds}
 use Rattle.sexpr_read.specs.Tree.{Tree, parts}
 use Rattle.board_errors.specs.declared.errors.BoardError.{BoardError}
 use Rattle.board_errors.specs.declared.errors.BoardError.TheVariants.{OutOfBoard, TooMany}
-use Rattle.board_items.specs.declared.item.About.TheVariants.{Text, Courtyard, FootZone}
-use Rattle.board_items.specs.declared.item.Item.{Item}
+use Rattle.one_item.specs.declared.item.About.TheVariants.{Text, Courtyard, FootZone}
+use Rattle.one_item.specs.declared.item.Item.{Item}
 use Rattle.board_items.specs.Boards.{PlainBoard}
 use Rattle.board_items.specs.ItemRefusals.{capacity_of}
 use Rattle.part_read.specs.declared.drawings.GraphicKind.{GraphicKind}

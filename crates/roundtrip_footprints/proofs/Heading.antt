@@ -96,7 +96,7 @@ module _ (d : Shift) (copper : LayerSet) (i j : Forest) (s r : Span) (h : AtMove
 
   -- ---- the whole head
 
-  -- the same head, but for the spot
+  -- the same head, but for the position
   pub record HeadAgain (x y : Head) : Type 0 where
     pub raw_point : RawPoint
     pub moved : IsMovedRawPoint (Some d) x.placement.at raw_point

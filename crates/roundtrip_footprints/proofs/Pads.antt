@@ -6,7 +6,7 @@ use Rattle.sexpr_read.specs.Tree.{Forest, Tree, branch}
 use Rattle.board_errors.specs.declared.errors.BoardError.{BoardError}
 use Rattle.board_errors.specs.declared.errors.BoardError.TheVariants.{OutOfBoard}
 use Rattle.copper_layers.specs.declared.set.LayerSet.{LayerSet}
-use Rattle.board_items.specs.declared.item.Item.{Item}
+use Rattle.one_item.specs.declared.item.Item.{Item}
 use Rattle.board_items.specs.Boards.{PlainBoard, name_of}
 use Rattle.part_read.specs.declared.numbers.RawPoint.{RawPoint}
 use Rattle.list_read.specs.FirstRefusals.{◌>>=◌, needed}

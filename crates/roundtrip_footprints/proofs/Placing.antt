@@ -8,11 +8,12 @@ use Rattle.geo_seg.specs.declared.shapes.Core.{Core}
 use Rattle.geo_seg.specs.declared.shapes.Shape.{Shape}
 use Rattle.geo_seg.specs.Shifts.{IsShiftedPoint, IsShiftedShape}
 use Rattle.copper_layers.specs.declared.set.LayerSet.{LayerSet}
-use Rattle.board_items.specs.declared.parts.Part.{Part}
-use Rattle.board_items.specs.declared.item.Hole.{Hole}
-use Rattle.board_items.specs.declared.item.Item.{Item}
-use Rattle.board_items.specs.Boards.{is_near, is_on_board}
-use Rattle.board_items.specs.ItemMoves.{AreShifted, HoleIsShifted, is_note}
+use Rattle.one_item.specs.declared.parts.Part.{Part}
+use Rattle.one_item.specs.declared.item.Hole.{Hole}
+use Rattle.one_item.specs.declared.item.Item.{Item}
+use Rattle.one_item.specs.Positions.{is_near, is_on_board}
+use Rattle.one_item.specs.ItemMoves.{AreShifted, HoleIsShifted}
+use Rattle.one_item.specs.ItemKinds.{is_note}
 use Rattle.part_read.specs.declared.numbers.RawPoint.{RawPoint}
 use Rattle.part_read.specs.declared.placements.Placement.{Placement}
 use Rattle.part_read.specs.declared.radii.Radius.{Radius}

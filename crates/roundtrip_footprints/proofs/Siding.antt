@@ -18,7 +18,7 @@ use Rattle.part_read.specs.BoardNumbers.{raw_point_at, raw_point_of}
 use Rattle.part_read.specs.Drawings.{raw_points_among}
 use Rattle.part_read.specs.Placements.{stood}
 use Rattle.footprint_read.specs.declared.sides.CourtSide.{CourtSide}
-use Rattle.footprint_read.specs.declared.sides.Course.{Course}
+use Rattle.footprint_read.specs.declared.sides.RawSegment.{RawSegment}
 use Rattle.footprint_read.specs.Courtyards.{empty_side, side_then, curve_side, figure_side, line_side, rect_side, circle_side, raw_points_side, has_arc, outline_side, graphic_side}
 use Rattle.roundtrip_lists.specs.Translated.{Shift, Translated}
 use Rattle.roundtrip_lists.specs.Agreeing.{Agrees, Same, FoundTranslated, forest_in}
@@ -33,7 +33,7 @@ use Rattle.roundtrip_footprints.proofs.Standing.{stood_moved}
 
 -- ---- a side that is moved: its lines stand on the board, and its figures in the footprint
 
-abbrev pub moved_course : Shift → Course → Course
+abbrev pub moved_course : Shift → RawSegment → RawSegment
 moved_course d line = record { a = moved_raw_point d line.a; b = moved_raw_point d line.b }
 
 abbrev pub moved_side : Shift → CourtSide → CourtSide
@@ -123,4 +123,4 @@ module _ (d : Shift) where
   sides_moved a b p q h k =
       ap (λ (s : CourtSide). side_then s q) h
       ∙ ap (side_then (moved_side d a)) k
-      ∙ ap (λ (l : List Course). record { curved = a.curved || b.curved; drawings = a.drawings ++ b.drawings; lines = l }) (sym (map-append (moved_course d) a.lines b.lines))
+      ∙ ap (λ (l : List RawSegment). record { curved = a.curved || b.curved; drawings = a.drawings ++ b.drawings; lines = l }) (sym (map-append (moved_course d) a.lines b.lines))

@@ -3,14 +3,14 @@
 ghost use Rattle.std.specs.Prelude.{◌≡◌, ℕ, true, List, codes, None, Ok};
 ghost use Rattle.sexpr_read.specs.declared.place.Span.{Span};
 ghost use Rattle.sexpr_read.specs.Tree.{Forest, Tree, branch, trees};
-ghost use Rattle.board_items.specs.declared.item.Item.{Item};
+ghost use Rattle.one_item.specs.declared.item.Item.{Item};
 ghost use Rattle.board_items.specs.Boards.{PlainBoard};
 ghost use Rattle.list_read.specs.ListHeads.{first_is};
 ghost use Rattle.footprint_read.specs.FootprintOf.{FootprintSays};
 ghost use Rattle.roundtrip_text.specs.Pieces.{SameTrees};
 ghost use Rattle.roundtrip_lists.specs.Translated.{Shift, place_moved, Translated};
 ghost use Rattle.roundtrip_lists.specs.Carried.{shift_of, ItemsOf};
-ghost use Rattle.roundtrip_lists.specs.LayerRole.{SameLayersAndNames};
+ghost use Rattle.roundtrip_lists.specs.SameLayersAndNames.{SameLayersAndNames};
 ghost use Rattle.roundtrip_lists.specs.Moving.{put_if};
 ghost use Rattle.roundtrip_footprints.specs.FootprintResults.{FootprintCarried};
 ghost use Rattle.roundtrip_footprints.specs.FootprintPlaces.{IsPlaceAgain, AtMoved};

@@ -3,13 +3,13 @@
 ghost use Rattle.std.specs.Prelude.{◌≡◌, ◌∷◌, ℕ, [], None, Ok};
 ghost use Rattle.sexpr_read.specs.declared.place.Span.{Span};
 ghost use Rattle.sexpr_read.specs.Tree.{Forest, Tree, branch};
-ghost use Rattle.board_items.specs.declared.item.Item.{Item};
+ghost use Rattle.one_item.specs.declared.item.Item.{Item};
 ghost use Rattle.board_items.specs.Boards.{PlainBoard};
 ghost use Rattle.pad_read.specs.declared.head.Head.{Head};
 ghost use Rattle.pad_read.specs.PadOf.{pad_of};
 ghost use Rattle.roundtrip_lists.specs.Translated.{Shift, Translated};
 ghost use Rattle.roundtrip_lists.specs.Carried.{ItemsOf, IfAccepted, ReadsCarried};
-ghost use Rattle.roundtrip_lists.specs.LayerRole.{SameLayersAndNames};
+ghost use Rattle.roundtrip_lists.specs.SameLayersAndNames.{SameLayersAndNames};
 ghost use Rattle.roundtrip_footprints.specs.MovedHeads.{moved_head};
 
 /// The list of a pad gives the pad, carried, in a footprint that is moved. A pad is of the unit asked for, and lies on a board.

@@ -8,9 +8,9 @@ use Rattle.geo_seg.specs.declared.points.Point.{Point}
 use Rattle.geo_seg.specs.declared.shapes.Core.{Core}
 use Rattle.geo_seg.specs.declared.shapes.Core.TheVariants.{Line as LineCore, Area}
 use Rattle.copper_layers.specs.declared.set.LayerSet.{LayerSet}
-use Rattle.board_items.specs.declared.parts.Part.{Part}
-use Rattle.board_items.specs.Boards.{is_near}
-use Rattle.board_items.specs.ItemMoves.{AreShifted}
+use Rattle.one_item.specs.declared.parts.Part.{Part}
+use Rattle.one_item.specs.Positions.{is_near}
+use Rattle.one_item.specs.ItemMoves.{AreShifted}
 use Rattle.part_read.specs.declared.numbers.RawPoint.{RawPoint}
 use Rattle.part_read.specs.declared.placements.Placement.{Placement}
 use Rattle.part_read.specs.declared.radii.Radius.{Radius}
@@ -67,7 +67,7 @@ radius_moved (Some d) a c e f h k x y most =
 half_of : (q w : ℤ) → ((pos 2 *ℤ q) +ℤ w) ≤ℤ pos 500000000 → pos 0 ≤ℤ w → q ≤ℤ pos 250000000
 half_of q w h k = omega (arith, ints, h, k)
 
--- ---- how spots that were read so stand on the boards
+-- ---- how points that were read so stand on the boards
 
 pub record Placements (o : Option Shift) (d : Shift) (placement new : Placement) : Type 0 where
   pub stands : (s t : RawPoint) → IsMovedRawPoint o s t → StandsMoved d placement new s t

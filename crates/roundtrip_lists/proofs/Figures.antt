@@ -8,8 +8,8 @@ use Rattle.geo_seg.specs.declared.shapes.Core.TheVariants.{Line as LineCore, Are
 use Rattle.geo_seg.specs.declared.shapes.Shape.{Shape}
 use Rattle.geo_seg.specs.Shifts.{IsShiftedPoint, IsShiftedCore}
 use Rattle.copper_layers.specs.declared.set.LayerSet.{LayerSet}
-use Rattle.board_items.specs.declared.parts.Part.{Part}
-use Rattle.board_items.specs.ItemMoves.{AreShifted}
+use Rattle.one_item.specs.declared.parts.Part.{Part}
+use Rattle.one_item.specs.ItemMoves.{AreShifted}
 use Rattle.part_read.specs.declared.numbers.RawPoint.{RawPoint}
 use Rattle.part_read.specs.declared.placements.Placement.{Placement}
 use Rattle.part_read.specs.declared.radii.Radius.{Radius}

@@ -8,14 +8,16 @@ use Rattle.sexpr_read.specs.Tree.{Forest, Tree, branch}
 use Rattle.board_errors.specs.declared.errors.BoardError.{BoardError}
 use Rattle.board_errors.specs.declared.errors.BoardError.TheVariants.{OutOfBoard, Ring}
 use Rattle.copper_layers.specs.declared.set.LayerSet.{LayerSet}
-use Rattle.board_items.specs.declared.parts.Part.{Part}
-use Rattle.board_items.specs.declared.item.About.{About}
-use Rattle.board_items.specs.declared.item.Hole.{Hole}
-use Rattle.board_items.specs.declared.item.What.TheVariants.{Graphic, Edge}
-use Rattle.board_items.specs.declared.item.Item.{Item}
-use Rattle.board_items.specs.Boards.{PlainBoard, name_of, is_near, is_on_board}
+use Rattle.one_item.specs.declared.parts.Part.{Part}
+use Rattle.one_item.specs.declared.item.About.{About}
+use Rattle.one_item.specs.declared.item.Hole.{Hole}
+use Rattle.one_item.specs.declared.item.What.TheVariants.{Graphic, Edge}
+use Rattle.one_item.specs.declared.item.Item.{Item}
+use Rattle.one_item.specs.Positions.{is_near, is_on_board}
+use Rattle.board_items.specs.Boards.{PlainBoard, name_of}
 use Rattle.copper_layers.specs.Layers.{single_layer}
-use Rattle.board_items.specs.ItemMoves.{AreShifted, HoleIsShifted, is_note}
+use Rattle.one_item.specs.ItemMoves.{AreShifted, HoleIsShifted}
+use Rattle.one_item.specs.ItemKinds.{is_note}
 use Rattle.part_read.specs.declared.numbers.RawPoint.{RawPoint}
 use Rattle.part_read.specs.declared.placements.Placement.{Placement}
 use Rattle.part_read.specs.declared.drawings.GraphicKind.{GraphicKind}
@@ -116,7 +118,7 @@ pub no_hole : (dx dy : ℤ) (hole : Option Hole) → HoleIsShifted dx dy None ho
 no_hole dx dy None h = refl
 no_hole dx dy (Some x) h = absurd h
 
--- ---- grounds
+-- ---- roles of layers
 
 pub text_same : (t u : Tree) (word : List ℕ) → SameAtom t u → is_text u word ≡ is_text t word
 text_same t u word h = ap (λ (v : Option (List ℕ)). is_value v word) (sym (same_value t u h))

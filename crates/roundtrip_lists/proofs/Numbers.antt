@@ -1,4 +1,4 @@
--- Numbers, names, layers and nets of lists equal up to translation are the same, and spots are moved.
+-- Numbers, names, layers and nets of lists equal up to translation are the same, and points are moved.
 use Rattle.std.proofs.Common.{◌≡◌, ◌∙◌, refl, sym, ap, subst, ℕ, ℤ, pos, Bool, true, false, ◌||◌, List, [], Option, None, Some, Result, Ok, Err, codes, find, cond}
 use Rattle.std.specs.Prelude.{unwrap_or, int_le, is_some}
 use Rattle.std.specs.List.{position_from}

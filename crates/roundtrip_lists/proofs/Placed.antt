@@ -7,12 +7,13 @@ use Rattle.geo_seg.specs.declared.shapes.Core.{Core}
 use Rattle.board_errors.specs.declared.errors.BoardError.{BoardError}
 use Rattle.board_errors.specs.declared.errors.BoardError.TheVariants.{Missing, OutOfBoard, Ring}
 use Rattle.copper_layers.specs.declared.set.LayerSet.{LayerSet}
-use Rattle.board_items.specs.declared.parts.Part.{Part}
-use Rattle.board_items.specs.declared.item.About.{About}
-use Rattle.board_items.specs.declared.item.What.TheVariants.{Graphic, Edge}
-use Rattle.board_items.specs.declared.item.Item.{Item}
+use Rattle.one_item.specs.declared.parts.Part.{Part}
+use Rattle.one_item.specs.declared.item.About.{About}
+use Rattle.one_item.specs.declared.item.What.TheVariants.{Graphic, Edge}
+use Rattle.one_item.specs.declared.item.Item.{Item}
 use Rattle.copper_layers.specs.Layers.{single_layer}
-use Rattle.board_items.specs.Boards.{PlainBoard, is_on_board}
+use Rattle.one_item.specs.Positions.{is_on_board}
+use Rattle.board_items.specs.Boards.{PlainBoard}
 use Rattle.part_read.specs.declared.numbers.RawPoint.{RawPoint}
 use Rattle.part_read.specs.declared.placements.Placement.{Placement}
 use Rattle.part_read.specs.declared.figures.Figure.{Figure}
@@ -60,7 +61,7 @@ one_of unit item made items e f own near =
 pub none_of : (unit : ℕ) (items : List Item) → [] ≡ items → ItemsOf unit items
 none_of unit items f = subst (λ (is : List Item). ItemsOf unit is) f tt
 
--- ---- outlines have a first spot
+-- ---- outlines have a first point
 
 pub started_by : (e : BoardError) (raw_points corners : List RawPoint) (b : Bool) → leb 3 (length raw_points) ≡ b → (check e b >>= λ _. Ok raw_points) ≡ Ok corners → 1 ≤ length corners
 started_by e raw_points corners true k h =
@@ -108,7 +109,7 @@ drawing_started OutlineKind tree d h =
     let f = both_ok (fill_of true tree) _ d b.1.1 in
     moved_start (same_ok f.1.1) (corners_started tree a.0 a.1.0)
 
--- ---- the first spot of what is drawn lies on the board
+-- ---- the first point of what is drawn lies on the board
 
 point_near : (placement : Placement) (s : RawPoint) (p : Point) → point_stood placement s ≡ Some p → fits_board (stood placement s) ≡ true
 point_near placement s p h = (made_of (fits_board (stood placement s)) (point_at (stood placement s)) p h).0

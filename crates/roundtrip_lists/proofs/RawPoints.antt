@@ -1,4 +1,4 @@
--- The spots of lists equal up to translation with a place: moved, unless they would go too far.
+-- The points of lists equal up to translation with a place: moved, unless they would go too far.
 use Rattle.std.proofs.Common.{◌≡◌, ◌∙◌, refl, sym, ap, subst, ℕ, ℤ, ◌+ℤ◌, Bool, true, false, List, Option, None, Some, Result, Ok, Err, ◌⊎◌, inl, inr}
 use Rattle.exact_dec.specs.declared.DecError.{DecError}
 use Rattle.exact_dec.specs.Computed.{mm_cut_answer}
@@ -21,7 +21,7 @@ use Rattle.roundtrip_lists.proofs.Numbers.{length_translated, needed_translated}
 raw_point_made : (x y u v : ℤ) → x ≡ u → y ≡ v → (let s : RawPoint = record { x = u; y = v } in s) ≡ record { x = x; y = y }
 raw_point_made x y u v h k = ap (λ (z : ℤ). let s : RawPoint = record { x = z; y = v } in s) (sym h) ∙ ap (λ (z : ℤ). let s : RawPoint = record { x = x; y = z } in s) (sym k)
 
--- where nothing is moved the spots are the same
+-- where nothing is moved the points are the same
 pub same_raw_point : (d : Option Shift) (t u : Tree) → TranslatedParts d t u → Agrees Same (raw_point_at t) (raw_point_at u)
 unfolding raw_point_at
 same_raw_point d t u h =

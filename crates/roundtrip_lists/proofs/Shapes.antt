@@ -9,12 +9,12 @@ use Rattle.geo_seg.specs.declared.shapes.Shape.{Shape}
 use Rattle.plain_types.specs.Lengths.{IsLength, IsLengthIfSome}
 use Rattle.board_errors.specs.declared.errors.BoardError.{BoardError}
 use Rattle.copper_layers.specs.declared.set.LayerSet.{LayerSet}
-use Rattle.board_items.specs.declared.parts.Part.{Part}
-use Rattle.board_items.specs.declared.item.Hole.{Hole}
-use Rattle.board_items.specs.declared.item.What.{What}
-use Rattle.board_items.specs.declared.item.Item.{Item}
-use Rattle.board_items.specs.Measures.{HasLengths}
-use Rattle.board_items.specs.Boards.{is_near}
+use Rattle.one_item.specs.declared.parts.Part.{Part}
+use Rattle.one_item.specs.declared.item.Hole.{Hole}
+use Rattle.one_item.specs.declared.item.What.{What}
+use Rattle.one_item.specs.declared.item.Item.{Item}
+use Rattle.one_item.specs.Measures.{HasLengths}
+use Rattle.one_item.specs.Positions.{is_near}
 use Rattle.part_read.specs.declared.numbers.RawPoint.{RawPoint}
 use Rattle.list_read.specs.FirstRefusals.{◌>>=◌, needed}
 use Rattle.part_read.specs.OnBoard.{tested, fits_board}
@@ -85,7 +85,7 @@ pub leads_tested : {A B : Type 0} (Q : A → Result B BoardError → Type 0) (e 
 leads_tested Q e true make answer h = h refl
 leads_tested Q e false make answer h = tt
 
--- ---- spots that are carried on a board
+-- ---- points that are carried on a board
 
 pub passes_le : (a b : ℤ) → a ≤ℤ b → le_z a b ≡ true
 passes_le a b h = grind (arith, ints)

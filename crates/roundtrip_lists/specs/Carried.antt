@@ -2,9 +2,10 @@
 use Rattle.std.specs.Prelude.{◌≡◌, ℕ, pos, ◌+ℤ◌, ◌*ℤ◌, true, false, List, [], ◌∷◌, map, MatchBool, Option, None, Some, Result, Ok, Err, ⊤}
 use Rattle.std.specs.List.{AllZip}
 use Rattle.board_errors.specs.declared.errors.BoardError.{BoardError}
-use Rattle.board_items.specs.declared.item.Item.{Item}
-use Rattle.board_items.specs.ItemMoves.{AreShifted, HoleIsShifted, KindIsShifted, is_note}
-use Rattle.board_items.specs.Boards.{is_on_board}
+use Rattle.one_item.specs.declared.item.Item.{Item}
+use Rattle.one_item.specs.ItemMoves.{AreShifted, HoleIsShifted, KindIsShifted}
+use Rattle.one_item.specs.ItemKinds.{is_note}
+use Rattle.one_item.specs.Positions.{is_on_board}
 use Rattle.roundtrip_lists.specs.Translated.{Shift}
 
 -- moved by nothing where there is no shift

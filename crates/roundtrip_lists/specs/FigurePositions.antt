@@ -1,7 +1,7 @@
 -- Figures that stand elsewhere: because their points were moved, or because what they stand in was.
 use Rattle.std.specs.Prelude.{◌≡◌, ◌+ℤ◌, true}
 use Rattle.std.specs.List.{AllZip}
-use Rattle.board_items.specs.Boards.{is_near}
+use Rattle.one_item.specs.Positions.{is_near}
 use Rattle.part_read.specs.declared.numbers.RawPoint.{RawPoint}
 use Rattle.part_read.specs.declared.placements.Placement.{Placement}
 use Rattle.part_read.specs.declared.figures.Figure.{Figure}

@@ -4,6 +4,6 @@ pub mod Moved
 pub mod Carried
 pub mod Moving
 pub mod FigurePositions
-pub mod LayerRole
+pub mod SameLayersAndNames
 pub mod ListMoves
 pub mod Drawn

@@ -3,9 +3,9 @@
 ghost use Rattle.std.specs.Prelude.{◌≡◌, ℕ, List, Option, Ok};
 ghost use Rattle.sexpr_read.specs.declared.place.Span.{Span};
 ghost use Rattle.sexpr_read.specs.Tree.{Forest, Tree, branch};
-ghost use Rattle.board_items.specs.declared.item.About.{About};
+ghost use Rattle.one_item.specs.declared.item.About.{About};
 ghost use Rattle.copper_layers.specs.declared.set.LayerSet.{LayerSet};
-ghost use Rattle.board_items.specs.declared.item.Item.{Item};
+ghost use Rattle.one_item.specs.declared.item.Item.{Item};
 ghost use Rattle.board_items.specs.Boards.{PlainBoard};
 ghost use Rattle.part_read.specs.declared.placements.Placement.{Placement};
 ghost use Rattle.part_read.specs.declared.drawings.GraphicKind.{GraphicKind};

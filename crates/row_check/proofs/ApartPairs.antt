@@ -6,8 +6,8 @@ use Rattle.std.proofs.lemmas.List.Elements.{All-nil}
 use Rattle.std.proofs.lemmas.Map.Views.{exact_unsigned_eq}
 use Rattle.geo_seg.specs.declared.boxes.Bounds.{Bounds}
 use Rattle.geo_seg.specs.Boxes.{AreClear}
-use Rattle.board_items.specs.ItemParts.{parts_of}
-use Rattle.board_items.specs.Extents.{LiesIn, AreBoundsOf}
+use Rattle.one_item.specs.ItemParts.{parts_of}
+use Rattle.one_item.specs.Extents.{LiesIn, AreBoundsOf}
 use Rattle.board_index.specs.IndexedItems.{IsEntryOf}
 use Rattle.box_index.specs.declared.entry.Entry.{Entry}
 use Rattle.cond_lang.specs.declared.kind.Kind.{Kind}

@@ -1,18 +1,18 @@
 -- The rows of tiles, put end to end.
-use Rattle.std.proofs.Common.{◌≡◌, refl, ap, subst, sym, ◌∙◌, ℕ, zero, suc, ◌+◌, ◌<◌, ◌≤◌, List, [], ◌∷◌, ◌++◌, take, length, get_or, arith}
-use Rattle.std.specs.List.{AllZip, flat_map}
-use Rattle.std.specs.List.Sorted.{IsStrictlyIncreasing}
+use Rattle.std.proofs.Common.{◌≡◌, refl, ap, subst, sym, ◌∙◌, ℕ, zero, suc, ◌+◌, ◌<◌, ◌≤◌, ◌⊎◌, inl, inr, List, [], ◌∷◌, ◌++◌, take, length, get_or, arith}
+use Rattle.std.specs.List.{AllZip, Contains, flat_map}
+use Rattle.std.specs.List.Sorted.{IsPermutation, IsStrictlyIncreasing}
 use Rattle.std.proofs.lemmas.List.{take_more, take_all, flat_map_more}
 use Rattle.box_index.specs.Tiles.{PlainIndex, IsSoundIndex}
 use Rattle.pair_check.specs.PlainRow.{PlainRow}
-use Rattle.pair_check.specs.Rows.{Checked}
+use Rattle.pair_check.specs.Rows.{Checked, IsRowOfOne, AreRows}
 use Rattle.row_check.specs.RowsOfTile.{IsIndexOf, AreRowsOfTile}
 use Rattle.row_check.specs.EntryWalks.{HasAddedRows}
-use Rattle.row_check.specs.Whole.{AreOnceWhere, IsOfTiles}
+use Rattle.row_check.specs.Whole.{AreEnough, AreInOrder, AreOnceWhere, AreSingles, IsOfTiles, IsOfChanged, ids_of}
 use Rattle.board_index.proofs.OneList.{nothing}
 use Rattle.row_check.proofs.RowLists.{no_rows}
-use Rattle.row_check.proofs.Sorting.{once_from_rows}
-use Rattle.row_check.proofs.WholeRows.{one_tile_more}
+use Rattle.row_check.proofs.Sorting.{apart_from, once_from_rows, once_permutation, rows_from_once}
+use Rattle.row_check.proofs.WholeRows.{every_row, once_append, one_tile_more}
 
 module _ (c : Checked) (index : PlainIndex) (sound : IsSoundIndex index) (is : IsIndexOf c index) (tiles changed : List ℕ) (up : IsStrictlyIncreasing tiles) (batches : List (List PlainRow))
     (each : AllZip (λ tile batch. AreRowsOfTile c index tile changed batch) tiles batches) where
@@ -52,3 +52,24 @@ module _ (c : Checked) (index : PlainIndex) (sound : IsSoundIndex index) (is : I
   batches_once =
       subst (λ (ts : List ℕ). AreOnceWhere (IsOfTiles c index ts changed) (flat_map (λ (batch : List PlainRow). batch) batches)) (take_all (length tiles) tiles (omega arith))
       (subst (λ (bs : List (List PlainRow)). AreOnceWhere (IsOfTiles c index (take (length tiles) tiles) changed) (flat_map (λ (batch : List PlainRow). batch) bs)) (take_all (length tiles) batches (omega (arith, long))) (first_tiles (length tiles) (omega arith)))
+
+  abbrev Single : PlainRow → Type 0
+  Single row = IsRowOfOne c row × Contains changed row.first
+
+  -- the rows of single items with those of the tiles
+  singles_and_batches : (singles : List PlainRow) → AreSingles c changed singles → AreOnceWhere (IsOfChanged c index tiles changed) (singles ++ flat_map (λ (batch : List PlainRow). batch) batches)
+  singles_and_batches singles s =
+      once_append Single (IsOfTiles c index tiles changed) (IsOfChanged c index tiles changed) singles (flat_map (λ (batch : List PlainRow). batch) batches)
+      (λ r s one two. apart_from r s (λ e f. let same = one.0.same in let less = two.0.ordered in omega arith)) (λ row h. inr h) (λ row h. inl h) turned (once_from_rows Single singles s) batches_once
+    where
+      turned : (row : PlainRow) → IsOfChanged c index tiles changed row → Single row ⊎ IsOfTiles c index tiles changed row
+      turned row (inl h) = inr h
+      turned row (inr h) = inl h
+
+  -- where all items changed and the tiles are enough, they are all rows once they are put in order
+  pub all_in_order : AreEnough index changed tiles → changed ≡ ids_of c.board → (singles after : List PlainRow) → AreSingles c changed singles
+      → IsPermutation (singles ++ flat_map (λ (batch : List PlainRow). batch) batches) after → AreInOrder after → AreRows c after
+  all_in_order enough same singles after s put order =
+      every_row c index sound is tiles changed after enough same
+      (rows_from_once (IsOfChanged c index tiles changed) after order
+      (once_permutation (IsOfChanged c index tiles changed) (singles ++ flat_map (λ (batch : List PlainRow). batch) batches) after put (singles_and_batches singles s)))

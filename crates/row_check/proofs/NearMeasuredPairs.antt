@@ -3,14 +3,14 @@ use Rattle.std.proofs.Common.{◌⊎◌, ℕ, nat_eq, ℤ, pos, ◌*ℤ◌, Bool
 use Rattle.std.specs.Bool.{if◌then◌else◌}
 use Rattle.std.proofs.lemmas.List.Elements.{All-nil, All-cons, All-head, All-tail, All-filter, All-weaker}
 use Rattle.geo_seg.specs.Distances.{Apart}
-use Rattle.board_items.specs.declared.parts.Part.{Part}
-use Rattle.board_items.specs.declared.item.Hole.{Hole}
-use Rattle.board_items.specs.declared.item.What.{What}
-use Rattle.board_items.specs.declared.item.What.TheVariants.{Track, Via, Pad, Graphic, Fill, Edge, Area, Body, Note}
-use Rattle.board_items.specs.declared.item.Item.{Item}
+use Rattle.one_item.specs.declared.parts.Part.{Part}
+use Rattle.one_item.specs.declared.item.Hole.{Hole}
+use Rattle.one_item.specs.declared.item.What.{What}
+use Rattle.one_item.specs.declared.item.What.TheVariants.{Track, Via, Pad, Graphic, Fill, Edge, Area, Body, Note}
+use Rattle.one_item.specs.declared.item.Item.{Item}
 use Rattle.copper_layers.specs.Layers.{has_layer}
-use Rattle.board_items.specs.CopperPairs.{on_layer, SomeMeet, Keeps}
-use Rattle.board_items.specs.ItemParts.{parts_of, hole_parts, kind_parts}
+use Rattle.one_item.specs.CopperPairs.{on_layer, SomeMeet, Keeps}
+use Rattle.one_item.specs.ItemParts.{parts_of, hole_parts, kind_parts}
 use Rattle.cond_lang.specs.declared.kind.Kind.{Kind}
 use Rattle.kind_subjects.specs.declared.subject.OperandKinds.{OperandKinds}
 use Rattle.kind_subjects.specs.declared.subject.OperandKinds.TheVariants.{Coppers, HolesAndCopper, Holes, EdgesAndCopper, Yards, Areas}

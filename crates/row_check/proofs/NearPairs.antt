@@ -4,9 +4,9 @@ use Rattle.std.proofs.lemmas.Int.{ints}
 use Rattle.std.proofs.lemmas.List.Elements.{All-nil}
 use Rattle.geo_seg.specs.declared.boxes.Bounds.{Bounds}
 use Rattle.geo_seg.specs.Boxes.{are_near, AreClear}
-use Rattle.board_items.specs.declared.parts.Part.{Part}
-use Rattle.board_items.specs.ItemParts.{parts_of}
-use Rattle.board_items.specs.Extents.{LiesIn, AreBoundsOf}
+use Rattle.one_item.specs.declared.parts.Part.{Part}
+use Rattle.one_item.specs.ItemParts.{parts_of}
+use Rattle.one_item.specs.Extents.{LiesIn, AreBoundsOf}
 use Rattle.cond_lang.specs.declared.kind.Kind.{Kind}
 use Rattle.cond_lang.specs.declared.kind.Family.{Family}
 use Rattle.cond_lang.specs.declared.kind.Family.TheVariants.{Meets, Keeps, Limits, Forbids}

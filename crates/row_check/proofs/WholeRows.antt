@@ -9,7 +9,7 @@ use Rattle.std.proofs.lemmas.List.Elements.{All-nil, All-cons, All-weaker, All-a
 use Rattle.std.proofs.lemmas.List.Kept.{AllPairs-cons, AllPairs-from_increasing, IsStrictlyIncreasing-filter}
 use Rattle.std.specs.Int.{int_max}
 use Rattle.geo_seg.specs.declared.boxes.Bounds.{Bounds}
-use Rattle.board_items.specs.declared.item.Item.{Item}
+use Rattle.one_item.specs.declared.item.Item.{Item}
 use Rattle.board_items.specs.Boards.{PlainBoard, Rise, item_at}
 use Rattle.box_index.specs.declared.entry.Entry.{Entry}
 use Rattle.box_index.specs.Tiles.{PlainIndex, IsSoundIndex, IsRising, margin, owner_of, lane, is_in, near_of, is_held, is_met_by, numbers_below, dirty_of, tile_count}
@@ -205,9 +205,9 @@ module _ (c : Checked) (index : PlainIndex) (sound : IsSoundIndex index) (is : I
       (once_joined (IsOfTiles c index tiles changed) (λ row. IsRowOfOne c row × Contains changed row.first) (IsOfChanged c index tiles changed) pairs more.more
       (λ r s two one. apart_from r s (λ e f. let less = two.0.ordered in let same = one.0.same in omega arith)) (λ row h. inl h) (λ row h. inr h) (λ row h. h) p more.pass)
 
-  -- where all items changed, they are all rows
-  pub all_rows : (tiles ids : List ℕ) (rows : List PlainRow) → tiles ≡ dirty_of index [] true → ids ≡ ids_of c.board → AreRowsWhere (IsOfChanged c index tiles ids) rows → AreRows c rows
-  all_rows tiles ids rows e same r = alike (IsOfChanged c index tiles ids) (IsRow c) rows on back r
+  -- where all items changed and the tiles are enough, they are all rows
+  pub every_row : (tiles ids : List ℕ) (rows : List PlainRow) → AreEnough index ids tiles → ids ≡ ids_of c.board → AreRowsWhere (IsOfChanged c index tiles ids) rows → AreRows c rows
+  every_row tiles ids rows enough same r = alike (IsOfChanged c index tiles ids) (IsRow c) rows on back r
     where
       on : (row : PlainRow) → IsOfChanged c index tiles ids row → IsRow c row
       on row (inl h) = inl h.0
@@ -217,5 +217,8 @@ module _ (c : Checked) (index : PlainIndex) (sound : IsSoundIndex index) (is : I
       there id item found = subst (λ xs. Contains xs id) (sym same) (id_of_found c.board.items id item found)
 
       back : (row : PlainRow) → IsRow c row → IsOfChanged c index tiles ids row
-      back row (inl two) = inl (two, asked ids tiles (all_enough tiles ids e) row two (inl (there row.first two.pair.a two.first.item_is)))
+      back row (inl two) = inl (two, asked ids tiles enough row two (inl (there row.first two.pair.a two.first.item_is)))
       back row (inr one) = inr (one, there row.first one.item one.first.item_is)
+
+  pub all_rows : (tiles ids : List ℕ) (rows : List PlainRow) → tiles ≡ dirty_of index [] true → ids ≡ ids_of c.board → AreRowsWhere (IsOfChanged c index tiles ids) rows → AreRows c rows
+  all_rows tiles ids rows e same r = every_row tiles ids rows (all_enough tiles ids e) same r

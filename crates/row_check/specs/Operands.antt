@@ -1,4 +1,4 @@
--- Items at hand.
+-- Items of a tile that are looked up once, before its pairs are walked.
 use Rattle.pair_check.specs.Rows.{Checked, Stands}
 use Rattle.row_check.specs.declared.operands.Operand.{Operand}
 

@@ -25,7 +25,7 @@ pub use pair_check::{CheckView, PairRows, Row, Steps, test_item, test_pair};
 use plain_types::crosses_threads;
 pub use sound::soundness;
 pub use tile::{test_tile, test_tile_by};
-pub use whole::{ids_of, push_singles, rows_of, rows_of_changed};
+pub use whole::{all_rows, ids_of, push_batches, push_singles, rows_of, rows_of_changed};
 
 fn asks_cross() {
     crosses_threads::<PairAsks>();

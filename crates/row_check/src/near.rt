@@ -3,8 +3,8 @@
 ghost use Rattle.std.specs.Prelude.{◌≢◌, ℤ, ◌+ℤ◌, IsTrue, [], Some};
 ghost use Rattle.geo_seg.specs.declared.boxes.Bounds.{Bounds};
 ghost use Rattle.geo_seg.specs.Boxes.{are_near};
-ghost use Rattle.board_items.specs.ItemParts.{parts_of};
-ghost use Rattle.board_items.specs.Extents.{AreBoundsOf};
+ghost use Rattle.one_item.specs.ItemParts.{parts_of};
+ghost use Rattle.one_item.specs.Extents.{AreBoundsOf};
 ghost use Rattle.rule_pick.specs.Reach.{IsReach};
 ghost use Rattle.pair_check.specs.PlainRow.{PlainRow};
 ghost use Rattle.pair_check.specs.Rows.{Checked, IsRowOfTwo};

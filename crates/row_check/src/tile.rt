@@ -332,7 +332,7 @@ fn rows_near<L: Ledger>(
 ///
 /// `changed` rises, and `asks` is what the rules of the view and its board ask for. The index holds the items of the board under
 /// their bounds, and reaches as far as anything is asked for. A pair costs one step at most, and none where the widened bounds do
-/// not meet. Only want of memory refuses it.
+/// not meet. Only running out of memory fails it.
 pub fn test_tile_by<L: Ledger>(
     alloc: Global,
     view: &CheckView,
@@ -377,7 +377,7 @@ pub fn test_tile_by<L: Ledger>(
 /// then by the number of the kind. Each pair is tested in one tile.
 ///
 /// `changed` rises. The index holds the items of the board under their bounds, and reaches as far as anything is asked for. A
-/// pair costs one step at most, and none where the widened bounds do not meet. Only want of memory refuses it.
+/// pair costs one step at most, and none where the widened bounds do not meet. Only running out of memory fails it.
 pub fn test_tile<L: Ledger>(
     alloc: Global,
     view: &CheckView,

@@ -1,18 +1,21 @@
 //! The rows of many tiles and items, and of a whole board.
 
-ghost use Rattle.std.specs.Prelude.{◌≡◌, ◌<◌, ℕ, true, take, IfOk, IfSome, OnOk, OnErr};
+ghost use Rattle.std.specs.Prelude.{◌≡◌, ◌<◌, ℕ, true, List, ◌++◌, take, IfOk, IfSome, OnOk, OnErr};
+ghost use Rattle.std.specs.List.{AllZip, flat_map};
 ghost use Rattle.std.specs.List.Sorted.{IsStrictlyIncreasing};
 ghost use Rattle.box_index.specs.Tiles.{IsSoundIndex};
 ghost use Rattle.pair_check.specs.Alone.{AreEnoughAlone, BreaksNothing};
 ghost use Rattle.pair_check.specs.Pairs.{Deciders};
+ghost use Rattle.pair_check.specs.PlainRow.{PlainRow};
 ghost use Rattle.pair_check.specs.Rows.{AreRows, AreRowsOfItem, AreRowsWhere};
 ghost use Rattle.pair_check.specs.CheckViews.{checked_by, deciders_of, IsWholeView};
 ghost use Rattle.row_check.specs.Asks.{AreAsksOf};
 ghost use Rattle.row_check.specs.RowsOfTile.{IsIndexOf, AreRowsOfTile};
 ghost use Rattle.row_check.specs.EntryWalks.{HasAddedRows};
-ghost use Rattle.row_check.specs.Whole.{AreOnceWhere, AreSingles, IsOfTiles, IsOfChanged, ids_of};
+ghost use Rattle.row_check.specs.Whole.{AreEnough, AreOnceWhere, AreSingles, IsOfTiles, IsOfChanged, ids_of};
 
 use crate::asks::PairAsks;
+use crate::batch::TileRows;
 use crate::order::put_in_order;
 use crate::sound::soundness;
 use crate::tile::test_tile_by;
@@ -146,6 +149,25 @@ pub fn push_singles(
     Ok(())
 }
 
+/// Appends the rows of each batch. Only running out of memory fails it; what was in the list is then followed by the rows of the first
+/// batches alone.
+pub fn push_batches(rows: &mut Vec<Row>, batches: &[TileRows]) -> Result<(), AllocError>
+    ensures rows { OnOk result
+        (rows.new.items ≡ rows.old.items ++ flat_map
+        (λ (batch : List PlainRow). batch) batches.now) }
+    ensures first { OnErr result
+        ((count : ℕ) × (rows.new.items ≡ rows.old.items ++ flat_map
+        (λ (batch : List PlainRow). batch) (take count batches.now))) }
+{
+    for batch in batches {
+        // most tiles have no rows
+        if !batch.as_slice().is_empty() {
+            rows.extend_from_slice(batch.as_slice())?;
+        }
+    }
+    Ok(())
+}
+
 /// The rows of what changed, with a blank for the count of the steps that they take.
 fn rows_counted<L: Ledger>(
     alloc: Global,
@@ -210,4 +232,32 @@ pub fn rows_of(alloc: Global, view: &CheckView, index: &TileIndex) -> Result<Vec
     let tiles = index.dirty(&[], true)?;
     let ids = ids_of(alloc, view.board)?;
     rows_of_changed(alloc, view, index, &tiles, &ids)
+}
+
+/// The rows of all that is checked. `ids` are those of all items, and the batches are the rows of all tiles that hold an entry. The tiles
+/// tell the contract alone which rows these are. Only running out of memory refuses it.
+pub fn all_rows(
+    alloc: Global,
+    view: &CheckView,
+    index: &TileIndex,
+    ids: &[u32],
+    tiles: &[u32],
+    batches: &[TileRows],
+) -> Result<Vec<Row>, AllocError>
+    requires view { IsWholeView view.now }
+    requires index { IsIndexOf (checked_by view.now) index.now }
+    requires ids { ids.now ≡ ids_of (checked_by view.now).board }
+    requires rise { IsStrictlyIncreasing ids.now }
+    requires enough { AreEnough index.now ids.now tiles.now }
+    requires batches { AllZip
+        (λ tile batch. AreRowsOfTile (checked_by view.now) index.now tile ids.now batch) tiles.now
+        batches.now }
+    ensures { IfOk result (λ rows. AreRows (checked_by view.now) rows.items) }
+{
+    soundness(index);
+    let mut rows = Vec::new(alloc);
+    push_singles(alloc, view, ids, &mut rows)?;
+    push_batches(&mut rows, batches)?;
+    put_in_order(&mut rows)?;
+    Ok(rows)
 }

@@ -6,9 +6,9 @@ use Rattle.std.proofs.lemmas.Nat.Bits.{bit_at-lt, same_from_bits}
 use Rattle.std.specs.Int.{bit_at}
 use Rattle.plain_types.specs.Lengths.{IsLength}
 use Rattle.copper_layers.specs.declared.set.LayerSet.{LayerSet}
-use Rattle.board_items.specs.declared.item.Item.{Item}
-use Rattle.board_items.specs.declared.item.What.{What}
-use Rattle.board_items.specs.declared.item.What.TheVariants as what
+use Rattle.one_item.specs.declared.item.Item.{Item}
+use Rattle.one_item.specs.declared.item.What.{What}
+use Rattle.one_item.specs.declared.item.What.TheVariants as what
 use Rattle.board_items.specs.Boards.{PlainBoard, item_at}
 use Rattle.copper_layers.specs.Layers.{has_layer}
 use Rattle.net_class.specs.NetClasses.{PlainClasses}

@@ -1,6 +1,6 @@
 -- The facts of all items of a board, by id.
 use Rattle.std.specs.Prelude.{◌≡◌, ℕ, List, Option, Some, IsSome}
-use Rattle.board_items.specs.declared.item.Item.{Item}
+use Rattle.one_item.specs.declared.item.Item.{Item}
 use Rattle.board_items.specs.Boards.{PlainBoard, item_at}
 use Rattle.net_class.specs.NetClasses.{PlainClasses}
 use Rattle.rule_pick.specs.declared.facts.Facts.{Facts}

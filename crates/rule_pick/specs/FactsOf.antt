@@ -4,15 +4,15 @@ use Rattle.std.specs.Option.{option_map}
 use Rattle.std.specs.List.{Any}
 use Rattle.geo_seg.specs.Distances.{Meet}
 use Rattle.copper_layers.specs.declared.set.LayerSet.{LayerSet}
-use Rattle.board_items.specs.declared.parts.Part.{Part}
-use Rattle.board_items.specs.declared.item.Hole.{Hole}
-use Rattle.board_items.specs.declared.item.What.{What}
-use Rattle.board_items.specs.declared.item.What.TheVariants as what
-use Rattle.board_items.specs.declared.item.Item.{Item}
+use Rattle.one_item.specs.declared.parts.Part.{Part}
+use Rattle.one_item.specs.declared.item.Hole.{Hole}
+use Rattle.one_item.specs.declared.item.What.{What}
+use Rattle.one_item.specs.declared.item.What.TheVariants as what
+use Rattle.one_item.specs.declared.item.Item.{Item}
 use Rattle.board_items.specs.Boards.{PlainBoard, name_of, item_at}
-use Rattle.board_items.specs.CopperPairs.{PartsMeet, SomeMeet, on_layer}
+use Rattle.one_item.specs.CopperPairs.{PartsMeet, SomeMeet, on_layer}
 use Rattle.copper_layers.specs.Layers.{has_layer}
-use Rattle.board_items.specs.ItemParts.{hole_parts}
+use Rattle.one_item.specs.ItemParts.{hole_parts}
 use Rattle.net_class.specs.NetClasses.{PlainClass, PlainClasses, class_of}
 use Rattle.rule_pick.specs.declared.kinds.ItemKind.{ItemKind}
 use Rattle.rule_pick.specs.declared.kinds.ItemKind.TheVariants.{Track, Via, Pad, Graphic, Fill, Edge, Area, Body, Note}

@@ -1,7 +1,7 @@
 -- How far checks reach: the greatest distance that a rule, a class, the board or an item asks for, in nanometres.
 use Rattle.std.specs.Prelude.{ℕ, ℤ, ◌≤ℤ◌, Bool, true, false, List, [], ◌∷◌, ◌++◌, map, All, Contains, Option, None, Some, if◌then◌else◌}
 use Rattle.std.specs.List.{flat_map}
-use Rattle.board_items.specs.declared.item.Item.{Item}
+use Rattle.one_item.specs.declared.item.Item.{Item}
 use Rattle.board_items.specs.Boards.{PlainBoard}
 use Rattle.net_class.specs.NetClasses.{PlainMins, PlainClasses}
 use Rattle.cond_lang.specs.declared.kind.Kind.{Kind}

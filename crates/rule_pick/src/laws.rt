@@ -2,7 +2,7 @@
 
 ghost use Rattle.std.specs.Prelude.{◌≡◌, ℕ, List, Option, IsTrue, ◌↔◌};
 ghost use Rattle.copper_layers.specs.declared.set.LayerSet.{LayerSet};
-ghost use Rattle.board_items.specs.declared.item.Item.{Item};
+ghost use Rattle.one_item.specs.declared.item.Item.{Item};
 ghost use Rattle.board_items.specs.Boards.{PlainBoard};
 ghost use Rattle.copper_layers.specs.Layers.{has_layer};
 ghost use Rattle.net_class.specs.NetClasses.{PlainClasses, PlainMins};

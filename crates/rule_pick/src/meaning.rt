@@ -93,6 +93,7 @@ fn some_name(pattern: &[u8], names: &[Name]) -> bool
     names.iter().any(|name| wild(pattern, name.bytes(), true))
 }
 
+/// What a function of a condition answers of an item with these facts. `pattern` is the text in its brackets.
 fn answer(func: Func, pattern: &[u8], facts: &Facts) -> bool
     ensures { result ≡ answer func pattern.now facts.now }
 {

@@ -4,7 +4,7 @@ use crate::rule::Other;
 use std::alloc::Global;
 
 /// The work, what is called around its tests, the deques, and how many numbers there are.
-#[derive(Clone, Copy)]
+#[derive(Drop)]
 pub(crate) struct Job<'a, T, G> {
     pub(crate) alloc: Global,
     pub(crate) work: &'a T,

@@ -1,6 +1,6 @@
 -- Steps have one answer, and numbers that come next never fall.
 use Rattle.std.proofs.Common.{◌≡◌, sym, ap, subst, ◌∙◌, ℕ, ◌≤◌, Bool, true, false, List, [], ◌∷◌, Result, Ok, Err, if◌then◌else◌, arith}
-use Rattle.board_items.specs.declared.item.Item.{Item}
+use Rattle.one_item.specs.declared.item.Item.{Item}
 use Rattle.board_items.specs.Boards.{PlainBoard, with_item}
 use Rattle.pcb_read.specs.BoardOf.{with_items}
 use Rattle.board_edits.specs.declared.refusal.Refusal.{Refusal}
@@ -24,10 +24,10 @@ module _ (one_answer : (s : State) (command : PlainCommand) (a b : Result State 
   one_step past (redo at) a b h k = h ∙ sym k
 
 module _ (one_step : (past : Past) (step : PlainStep) (a b : Result Past HistoryError) → StepAnswers past step a → StepAnswers past step b → a ≡ b) where
-  pub one_course : (past : Past) (steps : List PlainStep) (a b : Past) → AreStepsTo past steps a → AreStepsTo past steps b → a ≡ b
-  one_course past [] a b h k = h ∙ sym k
-  one_course past (step ∷ steps) a b h k =
-      one_course (left_by past k.0) steps a b (subst (λ (answer : Result Past HistoryError). AreStepsTo (left_by past answer) steps a) (one_step past step h.0 k.0 h.1 k.1) h.2) k.2
+  pub one_past_of_steps : (past : Past) (steps : List PlainStep) (a b : Past) → AreStepsTo past steps a → AreStepsTo past steps b → a ≡ b
+  one_past_of_steps past [] a b h k = h ∙ sym k
+  one_past_of_steps past (step ∷ steps) a b h k =
+      one_past_of_steps (left_by past k.0) steps a b (subst (λ (answer : Result Past HistoryError). AreStepsTo (left_by past answer) steps a) (one_step past step h.0 k.0 h.1 k.1) h.2) k.2
 
 -- ---- what an answer is
 

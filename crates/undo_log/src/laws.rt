@@ -15,7 +15,7 @@ ghost use Rattle.undo_log.specs.Ways.{PlainHistory, IsEdited, LeadsTo, AreWays, 
 ghost use Rattle.undo_log.specs.HistoryCalls.{AreCalls};
 
 use drc_state::laws::{one_answer, one_state};
-use kept_nets::laws::one_list_of_parts;
+use net_groups::one_list_of_parts;
 use row_check::laws::one_list;
 
 // ---- steps
@@ -29,7 +29,7 @@ pub fn one_step()
 }
 
 /// Steps lead to one past.
-pub fn one_course()
+pub fn one_past_of_steps()
     ensures { (past : Past) (steps : List PlainStep) (a b : Past) → AreStepsTo past steps a
         → AreStepsTo past steps b → a ≡ b }
 {

@@ -4,7 +4,7 @@ use Rattle.board_errors.specs.declared.errors.BoardError.TheVariants.{OutOfBoard
 use Rattle.board_items.specs.declared.found.Found.{Found}
 use Rattle.board_items.specs.declared.found.Found.TheVariants.{None as NoUnit, Shared, Inside, Unit as OneUnit}
 use Rattle.board_items.specs.Boards.{PlainBoard}
-use Rattle.board_items.specs.ItemMoves.{unit_stays}
+use Rattle.board_items.specs.UnitMoves.{unit_stays}
 use Rattle.board_items.specs.Units.{found_of}
 use Rattle.board_edits.specs.declared.refusal.Refusal.{Refusal}
 use Rattle.board_edits.specs.declared.refusal.Refusal.TheVariants.{Item as ItemRefused}

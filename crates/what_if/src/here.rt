@@ -60,13 +60,16 @@ pub fn take<R: Threads + Sync + AllocGlobal, G: Gate>(
         → IsStoppedOrTook session.old session.new (plain_command command.now) }
 {
     match session.apply_kept(rt, workers, command, gate) {
-        Ok((_, back)) => match difference(rt.alloc(), before, session) {
-            Ok((come, gone)) => Ok(Taken { come, gone, back }),
-            Err(_) => {
-                drop(back);
-                Err(TrialError::OutOfMemory)
+        Ok((applied, back)) => {
+            drop(applied);
+            match difference(rt.alloc(), before, session) {
+                Ok((come, gone)) => Ok(Taken { come, gone, back }),
+                Err(_) => {
+                    drop(back);
+                    Err(TrialError::OutOfMemory)
+                }
             }
-        },
+        }
         Err(EditError::OutOfMemory) => Err(TrialError::OutOfMemory),
         Err(inner) => Err(TrialError::Refused { step: 0, inner }),
     }

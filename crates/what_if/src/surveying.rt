@@ -40,8 +40,11 @@ fn counts_of<R: Threads + Sync + AllocGlobal, G: Gate>(
         commands,
         stride,
     };
-    let (runs, _) = run_tiles(rt, rt.alloc(), workers, stride, &work, &NoGate)?;
-    in_order(rt.alloc(), session, commands, &runs)
+    let (runs, dealt) = run_tiles(rt, rt.alloc(), workers, stride, &work, &NoGate)?;
+    drop(dealt);
+    let counts = in_order(rt.alloc(), session, commands, &runs);
+    drop(runs);
+    counts
 }
 
 /// The survey that counts make, at most 2^32 of them.

@@ -42,7 +42,10 @@ fn take_one<R: Threads + Sync + AllocGlobal, G: Gate>(
         (IsRefusedAt session.old.state (plain_command command.now) step) }
 {
     match session.apply(rt, workers, command, gate) {
-        Ok(_) => Ok(()),
+        Ok(applied) => {
+            drop(applied);
+            Ok(())
+        }
         Err(EditError::OutOfMemory) => Err(TrialError::OutOfMemory),
         Err(inner) => Err(TrialError::Refused { step, inner }),
     }

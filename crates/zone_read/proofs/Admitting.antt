@@ -4,9 +4,9 @@ use Rattle.std.proofs.lemmas.Int.{ints}
 use Rattle.geo_seg.specs.declared.points.Point.{Point}
 use Rattle.geo_seg.specs.declared.shapes.Shape.{Shape}
 use Rattle.copper_layers.specs.declared.set.LayerSet.{LayerSet}
-use Rattle.board_items.specs.declared.item.Bans.{Bans}
-use Rattle.board_items.specs.declared.parts.Part.{Part}
-use Rattle.board_items.specs.declared.item.What.TheVariants.{Fill, Area}
+use Rattle.one_item.specs.declared.item.Bans.{Bans}
+use Rattle.one_item.specs.declared.parts.Part.{Part}
+use Rattle.one_item.specs.declared.item.What.TheVariants.{Fill, Area}
 use Rattle.copper_layers.specs.Layers.{has_layer, is_within, single_layer}
 use Rattle.board_items.specs.Boards.{PlainBoard, name_of, is_admitted}
 use Rattle.copper_layers.proofs.LayerLemmas.{single_within}
@@ -17,7 +17,7 @@ use Rattle.part_read.specs.Figures.{first_of}
 use Rattle.part_read.specs.PlainItems.{plain_item}
 use Rattle.std.proofs.Common.{◌++◌, length-append}
 use Rattle.std.proofs.lemmas.List.Elements.{All-nil, All-cons, All-append}
-use Rattle.board_items.specs.declared.item.Item.{Item}
+use Rattle.one_item.specs.declared.item.Item.{Item}
 use Rattle.part_read.proofs.There.{map_some, both_some}
 use Rattle.part_read.specs.Ready.{IsReady, AreReady}
 use Rattle.part_read.specs.Capacity.{has_capacity_after}

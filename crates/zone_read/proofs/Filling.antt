@@ -2,15 +2,15 @@
 use Rattle.std.proofs.Common.{◌≡◌, ◌∙◌, refl, ap, sym, ℕ, suc, List, [], ◌∷◌, ◌++◌, length, append_assoc, length-append, arith, Some, Result, Ok, Err, true, codes}
 use Rattle.sexpr_read.specs.Tree.{Tree}
 use Rattle.board_errors.specs.declared.errors.BoardError.{BoardError}
-use Rattle.board_items.specs.declared.item.Item.{Item}
+use Rattle.one_item.specs.declared.item.Item.{Item}
 use Rattle.board_items.specs.Boards.{PlainBoard}
 use Rattle.list_read.specs.FirstRefusals.{◌>>=◌}
 use Rattle.list_read.specs.ListHeads.{has_head}
 use Rattle.part_read.specs.Lists.{before}
 use Rattle.geo_seg.specs.declared.shapes.Shape.{Shape}
 use Rattle.copper_layers.specs.declared.set.LayerSet.{LayerSet}
-use Rattle.board_items.specs.declared.item.Bans.{Bans}
-use Rattle.board_items.specs.declared.item.What.TheVariants.{Area}
+use Rattle.one_item.specs.declared.item.Bans.{Bans}
+use Rattle.one_item.specs.declared.item.What.TheVariants.{Area}
 use Rattle.part_read.specs.declared.numbers.RawPoint.{RawPoint}
 use Rattle.part_read.specs.ElementResults.{name_in}
 use Rattle.part_read.specs.Figures.{first_of}

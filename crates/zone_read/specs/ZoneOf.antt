@@ -8,9 +8,9 @@ use Rattle.geo_seg.specs.declared.shapes.Shape.{Shape}
 use Rattle.board_errors.specs.declared.errors.BoardError.{BoardError}
 use Rattle.board_errors.specs.declared.errors.BoardError.TheVariants.{Missing, OutOfBoard, ThickFill, TooMany}
 use Rattle.copper_layers.specs.declared.set.LayerSet.{LayerSet}
-use Rattle.board_items.specs.declared.item.Bans.{Bans}
-use Rattle.board_items.specs.declared.item.What.TheVariants.{Fill, Area}
-use Rattle.board_items.specs.declared.item.Item.{Item}
+use Rattle.one_item.specs.declared.item.Bans.{Bans}
+use Rattle.one_item.specs.declared.item.What.TheVariants.{Fill, Area}
+use Rattle.one_item.specs.declared.item.Item.{Item}
 use Rattle.copper_layers.specs.Layers.{single_layer}
 use Rattle.board_items.specs.Boards.{PlainBoard}
 use Rattle.part_read.specs.declared.numbers.RawPoint.{RawPoint}

@@ -120,7 +120,7 @@ fn area_of(alloc: Global, corners: &Corners) -> Result<Option<Shape>, AllocError
     }
 }
 
-/// The raw point by which a report names an area.
+/// The first corner, by which a report names an area.
 fn first_of(corners: &Corners) -> RawPoint
     ensures { result ≡ first_of corners.now }
 {

@@ -1,6 +1,6 @@
 use Rattle.std.proofs.Common.{ap, subst, ◌∙◌, ℤ}
 use Rattle.int_algebra.proofs.Scalars.{passed, clean, cleaned}
-use Rattle.board_items.specs.ItemMoves.{unit_stays, IsMoved}
+use Rattle.board_items.specs.UnitMoves.{unit_stays, IsMoved}
 use Rattle.board_edits.proofs.MovedUnits.{moved_small, small_passed, back_passed, moved_made}
 use Rattle.board_edits.proofs.making.shift.Goals as goal
 

@@ -1,5 +1,5 @@
 use Rattle.std.proofs.Common.{◌≡◌, ◌++◌, not, filter}
-use Rattle.board_items.specs.ItemMoves.{is_note}
+use Rattle.one_item.specs.ItemKinds.{is_note}
 use Rattle.board_items.specs.BoardIterators.{unit_left}
 use Rattle.board_edits.specs.Making.{ids_of}
 use Rattle.board_edits.proofs.touching.moving_in.Given as goal

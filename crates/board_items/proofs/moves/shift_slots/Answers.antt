@@ -1,7 +1,7 @@
 use Rattle.std.proofs.Common.{◌≡◌, ◌<◌, ◌≤◌, true, Option, length, refl, sym, ◌∙◌, subst, arith, slice_index_or}
 use Rattle.geo_seg.proofs.Rewritten.{not_yet, one_written}
 use Rattle.geo_seg.proofs.Shifted.{all_at}
-use Rattle.board_items.specs.declared.item.Item.{Item}
+use Rattle.one_item.specs.declared.item.Item.{Item}
 use Rattle.board_items.specs.ItemSlots.{IsUnitIn, IsMovedSlot, is_slot_on_board, slot_stays}
 use Rattle.board_items.proofs.SlotLists.{as_long}
 use Rattle.board_items.proofs.UnitRows.{as_many, unit_in}

@@ -1,6 +1,6 @@
 use Rattle.std.proofs.Common.{◌≡◌, ◌≤◌, true, ◌&&◌, Option, drop, suc, refl, sym, ◌∙◌, ap, subst, arith, add-one, slice_index_or}
 use Rattle.std.specs.List.{list_all}
-use Rattle.board_items.specs.declared.item.Item.{Item}
+use Rattle.one_item.specs.declared.item.Item.{Item}
 use Rattle.board_items.specs.ItemSlots.{IsUnitIn, is_slot_on_board, slot_stays}
 use Rattle.board_items.proofs.UnitRows.{as_many, unit_in, stays_on}
 use Rattle.board_items.proofs.UnitPlaces.{stays_before, stays_behind, others_before, others_behind}

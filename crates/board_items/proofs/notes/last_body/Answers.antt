@@ -1,5 +1,5 @@
 use Rattle.std.proofs.Common.{◌≡◌, ◌<◌, ◌∙◌, ap, sym, subst, suc, ◌-◌, length, get_or, take, Option, arith}
-use Rattle.board_items.specs.declared.item.Item.{Item}
+use Rattle.one_item.specs.declared.item.Item.{Item}
 use Rattle.board_items.specs.ItemSlots.{present, IsUnitIn}
 use Rattle.board_items.specs.ItemNotes.{only_body}
 use Rattle.board_items.proofs.NoteWalks.{bodies, last_of, begun, met, not_met, stopped}

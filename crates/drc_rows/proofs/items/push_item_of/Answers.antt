@@ -1,6 +1,6 @@
 use Rattle.std.proofs.Common.{◌≡◌, true, subst, Option, IfSome}
 use denote.Ref.{Bor}
-use Rattle.board_items.specs.declared.item.Item.{Item}
+use Rattle.one_item.specs.declared.item.Item.{Item}
 use Rattle.board_items.specs.Boards.{is_admitted}
 use Rattle.drc_rows.proofs.Scalars.{on_board}
 use Rattle.drc_rows.proofs.items.push_item_of.Goals as goal

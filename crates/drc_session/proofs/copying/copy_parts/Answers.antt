@@ -6,4 +6,4 @@ use Rattle.drc_session.proofs.copying.copy_parts.Goals as goal
 pub returns-clause-kept : goal.returns-clause-kept
 returns-clause-kept c =
     let old = c.args.parts.now in
-    kept_alike old _ c.in_ok-copy-5.ensures c.in_ok-copy-3.ensures c.in_ok-copy-4.ensures c.in_ok-copy-2.ensures (sym (as_passed old.reach c.requires.in_range)) c.in_ok-copy.ensures (c.in_ok-from_slice.ensures.items ∙ c.deref.ensures.value) (c.in_ok-copy_nets.ensures ∙ c.deref-2.ensures.value) c.requires
+    kept_alike old _ c.in-Ok.ensures.board c.in-Ok.ensures.classes c.in-Ok.ensures.rules c.in_ok-facts.ensures (sym (as_passed old.reach c.requires.in_range)) c.in_ok-index.ensures (c.in_ok-rows.ensures.items ∙ c.deref.ensures.value) (c.in_ok-nets.ensures ∙ c.deref-2.ensures.value) c.requires

@@ -1,4 +1,4 @@
-use Rattle.std.proofs.Common.{◌∙◌, refl, ℤ, List, sym, subst, false}
+use Rattle.std.proofs.Common.{◌∙◌, ℤ, List, sym, subst, false}
 use Rattle.std.proofs.lemmas.List.{with_items_is}
 use Rattle.net_groups.specs.NetParts.{PlainNetPart, AreParts}
 use Rattle.plain_types.specs.Lengths.{IsLength}
@@ -9,43 +9,24 @@ use Rattle.drc_session.specs.declared.parts.Parts.{Parts}
 use Rattle.drc_session.specs.SessionContents.{state_of, state_with, IsKept}
 use Rattle.drc_session.specs.Sessions.{IsApplied}
 use Rattle.drc_session.proofs.Clearances.{as_passed}
-use Rattle.drc_session.proofs.Edited.{facts_recomputed, nets_recomputed, items_recomputed, reach_recomputed, index_of_items, kept_with, looked_passed}
+use Rattle.drc_session.proofs.Edited.{facts_again, nets_again, index_again}
 use Rattle.drc_session.proofs.Settled.{edit_applied}
 use Rattle.drc_session.proofs.editing.find_recomputed.Goals as goal
 
 pub rows_after-requires-clause-facts : goal.rows_after-requires-clause-facts
 rows_after-requires-clause-facts g c κs within =
-    let was = c.requires.edited.0 in
-    let h = c.requires.edited.1 in
-    let parts = c.args.parts.now in
-    let ids = c.args.ids.now in
-    let old : Parts = record parts { board = was } in
-    let kept : IsKept old = kept_with was was parts h.kept in
-    (facts_recomputed old kept parts.board ids ids refl h.edited c.args.look.marks.items c.deref.result.now c.deref.ensures.value h.looked.marks c.update_facts.new.facts c.in_ok-changed.changed.items c.in_ok-changed.ensures).0
+    (facts_again c.requires.edited.0 c.args.parts.now c.args.ids.now c.args.look c.requires.edited.1 c.deref.result.now c.deref.ensures.value c.update_facts.new.facts c.in_ok-changed.changed.items c.in_ok-changed.ensures).0
 
 pub rows_after-requires-clause-changed : goal.rows_after-requires-clause-changed
 rows_after-requires-clause-changed g c κs within =
-    let was = c.requires.edited.0 in
-    let h = c.requires.edited.1 in
-    let parts = c.args.parts.now in
-    let ids = c.args.ids.now in
-    let old : Parts = record parts { board = was } in
-    let kept : IsKept old = kept_with was was parts h.kept in
-    (facts_recomputed old kept parts.board ids ids refl h.edited c.args.look.marks.items c.deref.result.now c.deref.ensures.value h.looked.marks c.update_facts.new.facts c.in_ok-changed.changed.items c.in_ok-changed.ensures).1.rise
+    (facts_again c.requires.edited.0 c.args.parts.now c.args.ids.now c.args.look c.requires.edited.1 c.deref.result.now c.deref.ensures.value c.update_facts.new.facts c.in_ok-changed.changed.items c.in_ok-changed.ensures).1.rise
 
 pub rows_after-requires-clause-index : goal.rows_after-requires-clause-index
 rows_after-requires-clause-index g c κs within =
-    let was = c.requires.edited.0 in
-    let h = c.requires.edited.1 in
-    let parts = c.args.parts.now in
-    let ids = c.args.ids.now in
-    let old : Parts = record parts { board = was } in
-    let kept : IsKept old = kept_with was was parts h.kept in
     let after = c.reach_after-reach in
-    let looked = looked_passed was ids parts.reach c.args.look kept.in_range h.looked in
-    let far = reach_recomputed old kept parts.board ids ids refl h.edited c.args.look _ (as_passed parts.reach kept.in_range) looked c.as_slice-rules.result.now c.as_slice-rules.ensures after.result after.ensures.value in
-    let items = items_recomputed old kept parts.board ids ids refl h.edited c.index_recomputed.new.index c.in_ok-index_recomputed.ensures.items in
-    index_of_items old parts.board c.index_recomputed.new.index after.result after.ensures.in_range c.in_ok-index_recomputed.ensures.reach items far
+    let index = c.in_ok-index_recomputed.ensures in
+    index_again c.requires.edited.0 c.args.parts.now c.args.ids.now c.args.look c.requires.edited.1 c.as_slice-rules.result.now c.as_slice-rules.ensures after.result after.ensures.in_range after.ensures.value
+    c.index_recomputed.new.index index.reach index.items
 
 pub returns-clause-kept : goal.returns-clause-kept
 returns-clause-kept g c =
@@ -53,23 +34,17 @@ returns-clause-kept g c =
     let h = c.requires.edited.1 in
     let parts = c.args.parts.now in
     let ids = c.args.ids.now in
-    let old : Parts = record parts { board = was } in
-    let kept : IsKept old = kept_with was was parts h.kept in
     let after = c.reach_after-reach in
-    let looked = looked_passed was ids parts.reach c.args.look kept.in_range h.looked in
-    let far = reach_recomputed old kept parts.board ids ids refl h.edited c.args.look _ (as_passed parts.reach kept.in_range) looked c.as_slice-rules.result.now c.as_slice-rules.ensures after.result after.ensures.value in
-    let items = items_recomputed old kept parts.board ids ids refl h.edited c.index_recomputed.new.index c.in_ok-index_recomputed.ensures.items in
-    let index = index_of_items old parts.board c.index_recomputed.new.index after.result after.ensures.in_range c.in_ok-index_recomputed.ensures.reach items far in
-    let facts = facts_recomputed old kept parts.board ids ids refl h.edited c.args.look.marks.items c.deref.result.now c.deref.ensures.value h.looked.marks c.update_facts.new.facts c.in_ok-changed.changed.items c.in_ok-changed.ensures in
-    let nets = nets_recomputed old kept parts.board ids ids refl h.edited c.deref_mut.result.now c.nets_recomputed.new.nets c.deref_mut.ensures.value c.args.look.nets.items h.looked.nets c.in_ok-nets_recomputed.ensures in
-    let rows = c.in_ok-applied.ensures.rows (checked_in (state_of old)) (facts.1.step (plain_rules parts.rules).rules) h.kept.rows in
+    let index = c.in_ok-index_recomputed.ensures in
+    let facts = facts_again was parts ids c.args.look h c.deref.result.now c.deref.ensures.value c.update_facts.new.facts c.in_ok-changed.changed.items c.in_ok-changed.ensures in
+    let nets = nets_again was parts ids c.args.look h c.deref_mut.result.now c.nets_recomputed.new.nets c.deref_mut.ensures.value c.in_ok-nets_recomputed.ensures in
     subst (λ (p : Parts). IsKept p) (sym c.in_ok-applied.ensures.rest)
     (record {
       facts = facts.0;
-      index = index;
-      reach = sym c.in_ok-index_recomputed.ensures.reach;
+      index = index_again was parts ids c.args.look h c.as_slice-rules.result.now c.as_slice-rules.ensures after.result after.ensures.in_range after.ensures.value c.index_recomputed.new.index index.reach index.items;
+      reach = sym index.reach;
       in_range = subst (λ (z : ℤ). IsLength z) (as_passed after.result after.ensures.in_range) after.ensures.in_range;
-      rows = rows;
+      rows = c.in_ok-applied.ensures.rows (checked_in (state_with was parts)) (facts.1.step (plain_rules parts.rules).rules) h.kept.rows;
       nets = subst (λ (n : List PlainNetPart). AreParts parts.board n) (sym (with_items_is parts.nets c.nets_recomputed.new.nets (c.nets_recomputed.auto.nets ∙ c.deref_mut.ensures.len))) nets;
       few = h.kept.few;
     })
@@ -78,18 +53,13 @@ pub returns-clause-applied : goal.returns-clause-applied
 returns-clause-applied g c = λ was h.
     let parts = c.args.parts.now in
     let ids = c.args.ids.now in
-    let old : Parts = record parts { board = was } in
-    let kept : IsKept old = kept_with was was parts h.kept in
     let after = c.reach_after-reach in
-    let looked = looked_passed was ids parts.reach c.args.look kept.in_range h.looked in
-    let far = reach_recomputed old kept parts.board ids ids refl h.edited c.args.look _ (as_passed parts.reach kept.in_range) looked c.as_slice-rules.result.now c.as_slice-rules.ensures after.result after.ensures.value in
-    let items = items_recomputed old kept parts.board ids ids refl h.edited c.index_recomputed.new.index c.in_ok-index_recomputed.ensures.items in
-    let index = index_of_items old parts.board c.index_recomputed.new.index after.result after.ensures.in_range c.in_ok-index_recomputed.ensures.reach items far in
-    let facts = facts_recomputed old kept parts.board ids ids refl h.edited c.args.look.marks.items c.deref.result.now c.deref.ensures.value h.looked.marks c.update_facts.new.facts c.in_ok-changed.changed.items c.in_ok-changed.ensures in
-    let was_far = subst (λ (z : ℤ). IsFarthest (checked_in (state_of old)) z) (sym h.kept.reach) h.kept.index.reach in
+    let index = c.in_ok-index_recomputed.ensures in
+    let facts = facts_again was parts ids c.args.look h c.deref.result.now c.deref.ensures.value c.update_facts.new.facts c.in_ok-changed.changed.items c.in_ok-changed.ensures in
+    let index_is = index_again was parts ids c.args.look h c.as_slice-rules.result.now c.as_slice-rules.ensures after.result after.ensures.in_range after.ensures.value c.index_recomputed.new.index index.reach index.items in
+    let was_far = subst (λ (z : ℤ). IsFarthest (checked_in (state_with was parts)) z) (sym h.kept.reach) h.kept.index.reach in
     let applied = c.in_ok-applied.ensures in
-    let reach = c.in_ok-index_recomputed.ensures.reach in
-    let before = as_passed parts.reach kept.in_range in
-    let all = edit_applied was parts.board parts.classes (plain_rules parts.rules) ids c.in_ok-changed.changed.items h.edited parts.facts c.update_facts.new.facts h.kept.facts facts.0 facts.1 c.index_recomputed.new.index index parts.reach was_far c.args.look.boxes.items h.looked.boxes c.in_ok-applied.applied applied.held
-    c.is_same-stays.result (λ e. reach ∙ c.is_same-stays.ensures.same e ∙ sym before) (λ e same. c.is_same-stays.ensures.other e (sym reach ∙ sym same ∙ before)) applied.near applied.all in
+    let before = as_passed parts.reach h.kept.in_range in
+    let all = edit_applied was parts.board parts.classes (plain_rules parts.rules) ids c.in_ok-changed.changed.items h.edited parts.facts c.update_facts.new.facts h.kept.facts facts.0 facts.1 c.index_recomputed.new.index index_is parts.reach was_far c.args.look.boxes.items h.looked.boxes c.in_ok-applied.applied applied.held
+    c.is_same-stays.result (λ e. index.reach ∙ c.is_same-stays.ensures.same e ∙ sym before) (λ e same. c.is_same-stays.ensures.other e (sym index.reach ∙ sym same ∙ before)) applied.near applied.all in
     subst (λ (p : Parts). IsApplied (state_with was parts) (state_of p) false c.in_ok-applied.applied) (sym applied.rest) all

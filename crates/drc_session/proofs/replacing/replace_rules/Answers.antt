@@ -6,5 +6,5 @@ use Rattle.drc_session.proofs.replacing.replace_rules.Goals as goal
 pub returns-clause-applied : goal.returns-clause-applied
 returns-clause-applied g c =
     let now = c.reach_recomputed.new.parts in
-    let rows = c.in_ok-rows.ensures in
-    (all_applied (state_of now) now.index c.in_ok-reach_recomputed.ensures.index c.in_ok-rows.applied rows.held (state_of c.args.parts.now) true (inl refl) rows.tiles, rows.dealt)
+    let rows = c.in-Ok-check_all.ensures in
+    (all_applied (state_of now) now.index c.in-Ok.ensures.index c.in-Ok-check_all.checked.1 rows.held (state_of c.args.parts.now) true (inl refl) rows.tiles, rows.dealt)

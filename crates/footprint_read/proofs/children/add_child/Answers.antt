@@ -1,5 +1,5 @@
 use Rattle.std.proofs.Common.{List, All, subst, sym}
-use Rattle.board_items.specs.declared.item.Item.{Item}
+use Rattle.one_item.specs.declared.item.Item.{Item}
 use Rattle.part_read.specs.Ready.{IsReady}
 use Rattle.footprint_read.proofs.Standing.{one_ready}
 use Rattle.footprint_read.proofs.children.add_child.Goals as goal

@@ -2,7 +2,7 @@ use Rattle.std.proofs.Common.{◌≡◌, ◌∙◌, refl, ap, sym, ℕ, ◌+◌,
 use Rattle.std.proofs.lemmas.List.{drop_more}
 use Rattle.geo_seg.specs.declared.points.Seg.{Seg}
 use Rattle.part_read.specs.There.{both, after}
-use Rattle.footprint_read.specs.declared.sides.Course.{Course}
+use Rattle.footprint_read.specs.declared.sides.RawSegment.{RawSegment}
 use Rattle.footprint_read.specs.Courtyards.{is_long, seg_of, segs_of}
 use Rattle.footprint_read.proofs.courts.segs_of.Goals as goal
 
@@ -10,11 +10,11 @@ use Rattle.footprint_read.proofs.courts.segs_of.Goals as goal
 abbrev with_first : Bool → Option Seg → Option (List Seg) → Option (List Seg)
 with_first long seg rest = cond long (both (λ s ss. s ∷ ss) seg rest) rest
 
-from_first : (lines : List Course) (i : ℕ) (d : Course) (old : List Seg) → i < length lines
+from_first : (lines : List RawSegment) (i : ℕ) (d : RawSegment) (old : List Seg) → i < length lines
     → after old (segs_of (drop i lines)) ≡ after old (with_first (is_long (slice_index_or lines i d)) (seg_of (slice_index_or lines i d)) (segs_of (drop (i + 1) lines)))
-from_first lines i d old less = ap (λ (ls : List Course). after old (segs_of ls)) (drop_more lines i d less)
+from_first lines i d old less = ap (λ (ls : List RawSegment). after old (segs_of ls)) (drop_more lines i d less)
 
-skipped : (lines : List Course) (i : ℕ) (d : Course) (old : List Seg) → i < length lines → is_long (slice_index_or lines i d) ≡ false → after old (segs_of (drop (i + 1) lines)) ≡ after old (segs_of (drop i lines))
+skipped : (lines : List RawSegment) (i : ℕ) (d : RawSegment) (old : List Seg) → i < length lines → is_long (slice_index_or lines i d) ≡ false → after old (segs_of (drop (i + 1) lines)) ≡ after old (segs_of (drop i lines))
 skipped lines i d old less short =
     sym (from_first lines i d old less
     ∙ ap (λ (b : Bool). after old (with_first b (seg_of (slice_index_or lines i d)) (segs_of (drop (i + 1) lines)))) short)
@@ -24,7 +24,7 @@ one_on : (old : List Seg) (s : Seg) (rest : Option (List Seg)) → after (old ++
 one_on old s None = refl
 one_on old s (Some ss) = ap (λ (xs : List Seg). Some xs) (append_assoc old (s ∷ []) ss)
 
-taken : (lines : List Course) (i : ℕ) (d : Course) (old new : List Seg) (s : Seg) → i < length lines → is_long (slice_index_or lines i d) ≡ true → seg_of (slice_index_or lines i d) ≡ Some s → new ≡ old ++ s ∷ []
+taken : (lines : List RawSegment) (i : ℕ) (d : RawSegment) (old new : List Seg) (s : Seg) → i < length lines → is_long (slice_index_or lines i d) ≡ true → seg_of (slice_index_or lines i d) ≡ Some s → new ≡ old ++ s ∷ []
     → after new (segs_of (drop (i + 1) lines)) ≡ after old (segs_of (drop i lines))
 taken lines i d old new s less long there more =
     let rest : Option (List Seg) = segs_of (drop (i + 1) lines) in

@@ -1,5 +1,5 @@
 use Rattle.std.proofs.Common.{◌≡◌, ◌↔◌, List, [], IsTrue, subst}
-use Rattle.board_items.specs.declared.parts.Part.{Part}
+use Rattle.one_item.specs.declared.parts.Part.{Part}
 use Rattle.item_copper.proofs.SideLists.{of_listed}
 use Rattle.item_copper.proofs.measured_pair.is_empty.Goals as goal
 

@@ -1,12 +1,10 @@
-use Rattle.std.proofs.Common.{IsTrue, refl, sym, ◌∙◌}
+use Rattle.std.proofs.Common.{IsTrue, sym, ◌∙◌}
 use Rattle.std.specs.List.{Any}
-use Rattle.geo_seg.proofs.Choices.{surely, surely_not}
 use Rattle.geo_seg.specs.Distances.{Meet}
-use Rattle.board_items.specs.declared.parts.Part.{Part}
+use Rattle.one_item.specs.declared.parts.Part.{Part}
 use Rattle.item_copper.specs.declared.side.SomeParts.{SomeParts}
 use Rattle.item_copper.specs.MeasuredSides.{is_taken, parts_at}
-use Rattle.item_copper.proofs.Chosen.{some_chosen, none_chosen, one_more}
-use Rattle.item_copper.proofs.Chosen.{not_false}
+use Rattle.item_copper.proofs.Chosen.{surely_chosen, surely_none_chosen, one_more, not_false}
 use Rattle.item_copper.proofs.measured_pair.listed_meet.Goals.{else-takes-via-then-takes+else-meets_side, else-takes-via-else-takes}
 use Rattle.item_copper.proofs.measured_pair.listed_meet.Goals as goal
 
@@ -15,14 +13,11 @@ MeetsSome side part = Any (λ other. Meet part.shape other.shape) (parts_at side
 
 pub returns-then-meets_side : goal.returns-then-meets_side
 returns-then-meets_side c =
-    surely _ refl
-    (some_chosen (MeetsSome c.args.side.now) (is_taken c.args.listed.now.layer) c.args.listed.now.parts.now c.loop-part.part-index c.part-item.result c.loop-part-test.true c.part-item.is
-    (sym c.takes.ensures ∙ c.if-takes.true) (c.meets_side.ensures.0 c.if-meets_side.true))
+    surely_chosen (MeetsSome c.args.side.now) (is_taken c.args.listed.now.layer) c.args.listed.now.parts.now c.loop-part.part-index c.part-item.result c.loop-part-test.true c.part-item.is
+    (sym c.takes.ensures ∙ c.if-takes.true) (c.meets_side.ensures.0 c.if-meets_side.true)
 
 pub returns : goal.returns
-returns c =
-    surely_not _ refl
-    (none_chosen (MeetsSome c.args.side.now) (is_taken c.args.listed.now.layer) c.args.listed.now.parts.now c.loop-part.part-index c.loop-part-test.false c.loop-part.invariant)
+returns c = surely_none_chosen (MeetsSome c.args.side.now) (is_taken c.args.listed.now.layer) c.args.listed.now.parts.now c.loop-part.part-index c.loop-part-test.false c.loop-part.invariant
 
 pub loop-part-preserved : goal.loop-part-preserved
 loop-part-preserved c =

@@ -1,7 +1,7 @@
 use Rattle.std.proofs.Common.{◌↔◌, List, IsTrue, subst}
 use Rattle.std.specs.List.{Any}
 use Rattle.geo_seg.specs.Distances.{Meet}
-use Rattle.board_items.specs.declared.parts.Part.{Part}
+use Rattle.one_item.specs.declared.parts.Part.{Part}
 use Rattle.item_copper.proofs.SideLists.{of_listed, of_single, of_any, single_part}
 use Rattle.item_copper.proofs.measured_pair.meets_side.Goals as goal
 

@@ -1,8 +1,8 @@
 use Rattle.std.proofs.Common.{◌↔◌, List, ◌∷◌, [], IsTrue, subst}
 use Rattle.std.specs.List.{Any}
 use Rattle.geo_seg.specs.Distances.{Meet}
-use Rattle.board_items.specs.declared.parts.Part.{Part}
-use Rattle.board_items.specs.CopperPairs.{SomeMeet}
+use Rattle.one_item.specs.declared.parts.Part.{Part}
+use Rattle.one_item.specs.CopperPairs.{SomeMeet}
 use Rattle.item_copper.specs.MeasuredSides.{parts_at}
 use Rattle.item_copper.proofs.SideLists.{of_listed, of_single, of_any, single_part, listed_parts, meet_is}
 use Rattle.item_copper.proofs.measured_pair.sides_meet.Goals as goal

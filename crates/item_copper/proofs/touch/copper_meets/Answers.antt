@@ -1,7 +1,7 @@
 use Rattle.std.proofs.Common.{refl, length, ◌≤◌, subst, List}
 use Rattle.std.proofs.lemmas.List.Elements.{AllWithin-more}
 use Rattle.geo_seg.proofs.Choices.{surely, surely_not}
-use Rattle.board_items.specs.declared.parts.Part.{Part}
+use Rattle.one_item.specs.declared.parts.Part.{Part}
 use Rattle.item_copper.proofs.Meeting.{MeetsSome, found, not_found, none_within, copper_to}
 use Rattle.item_copper.proofs.Chosen.{not_false}
 use Rattle.item_copper.proofs.touch.copper_meets.Goals as goal

@@ -1,5 +1,5 @@
 use Rattle.std.specs.List.{AllWithin}
-use Rattle.board_items.specs.CopperPairs.{PartsMeet}
+use Rattle.one_item.specs.CopperPairs.{PartsMeet}
 use Rattle.item_copper.proofs.touch.touches_some.Given as goal
 
 abbrev pub invariant-loop-other : goal.invariant-loop-other

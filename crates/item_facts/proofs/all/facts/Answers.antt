@@ -1,7 +1,7 @@
 use Rattle.std.proofs.Common.{Option, Bor, sym, ap, ◌∙◌}
 use Rattle.std.proofs.lemmas.Result.{IfOk-weaker}
 use Rattle.std.specs.Option.{option_copied}
-use Rattle.board_items.specs.declared.item.Item.{Item}
+use Rattle.one_item.specs.declared.item.Item.{Item}
 use Rattle.rule_pick.specs.FactsOf.{AreFactsOf, AreFacts}
 use Rattle.item_facts.proofs.all.facts.Goals as goal
 

@@ -1,5 +1,5 @@
 use Rattle.std.proofs.Common.{ℕ, List, subst}
-use Rattle.board_items.specs.declared.item.Item.{Item}
+use Rattle.one_item.specs.declared.item.Item.{Item}
 use Rattle.board_items.specs.BoardIterators.{items_left}
 use Rattle.item_facts.specs.Known.{AreLeft, HasFactsSoFar}
 use Rattle.item_facts.proofs.LeftItems.{next_left}

@@ -1,7 +1,7 @@
 use Rattle.std.proofs.Common.{refl}
 use Rattle.geo_seg.proofs.Choices.{surely, surely_not}
 use Rattle.geo_seg.specs.Distances.{Meet}
-use Rattle.board_items.specs.declared.parts.Part.{Part}
+use Rattle.one_item.specs.declared.parts.Part.{Part}
 use Rattle.item_copper.proofs.Meeting.{any_read, none_within}
 use Rattle.item_facts.proofs.meets.meets_some.Goals as goal
 

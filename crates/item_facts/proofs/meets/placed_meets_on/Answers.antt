@@ -1,6 +1,6 @@
 use Rattle.std.proofs.Common.{List, IsTrue, ◌↔◌, subst, arith}
-use Rattle.board_items.specs.declared.parts.Part.{Part}
-use Rattle.board_items.specs.CopperPairs.{SomeMeet, on_layer}
+use Rattle.one_item.specs.declared.parts.Part.{Part}
+use Rattle.one_item.specs.CopperPairs.{SomeMeet, on_layer}
 use Rattle.item_facts.proofs.Placed.{without_copper, with_copper}
 use Rattle.item_facts.proofs.meets.placed_meets_on.Goals as goal
 

@@ -1,7 +1,7 @@
 use Rattle.std.proofs.Common.{List, IsTrue, ◌↔◌, subst, arith}
 use Rattle.std.specs.List.{Any}
-use Rattle.board_items.specs.declared.parts.Part.{Part}
-use Rattle.board_items.specs.CopperPairs.{PartsMeet}
+use Rattle.one_item.specs.declared.parts.Part.{Part}
+use Rattle.one_item.specs.CopperPairs.{PartsMeet}
 use Rattle.item_facts.proofs.Placed.{without_copper, with_copper}
 use Rattle.item_facts.proofs.meets.placed_touches.Goals as goal
 

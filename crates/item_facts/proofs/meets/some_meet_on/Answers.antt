@@ -2,7 +2,7 @@ use Rattle.std.proofs.Common.{List, IsTrue, refl, sym, ◌∙◌}
 use Rattle.std.specs.List.{Any}
 use Rattle.geo_seg.proofs.Choices.{surely, surely_not}
 use Rattle.geo_seg.specs.Distances.{Meet}
-use Rattle.board_items.specs.declared.parts.Part.{Part}
+use Rattle.one_item.specs.declared.parts.Part.{Part}
 use Rattle.copper_layers.specs.Layers.{has_layer}
 use Rattle.item_copper.proofs.Chosen.{some_chosen, none_chosen, one_more, not_false}
 use Rattle.item_facts.proofs.meets.some_meet_on.Goals.{else-has-via-then-has+else-meets_some, else-has-via-else-has}

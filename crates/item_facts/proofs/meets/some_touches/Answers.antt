@@ -1,6 +1,6 @@
 use Rattle.std.proofs.Common.{refl}
 use Rattle.geo_seg.proofs.Choices.{surely, surely_not}
-use Rattle.board_items.specs.CopperPairs.{PartsMeet}
+use Rattle.one_item.specs.CopperPairs.{PartsMeet}
 use Rattle.item_copper.proofs.Meeting.{any_read, none_within}
 use Rattle.item_facts.proofs.meets.some_touches.Goals as goal
 

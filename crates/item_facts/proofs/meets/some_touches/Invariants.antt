@@ -1,5 +1,5 @@
 use Rattle.std.specs.List.{AllWithin}
-use Rattle.board_items.specs.CopperPairs.{PartsMeet}
+use Rattle.one_item.specs.CopperPairs.{PartsMeet}
 use Rattle.item_facts.proofs.meets.some_touches.Given as goal
 
 abbrev pub invariant-loop-part : goal.invariant-loop-part

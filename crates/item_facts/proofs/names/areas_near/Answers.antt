@@ -1,5 +1,5 @@
 use Rattle.std.proofs.Common.{ℕ, List, sym, subst}
-use Rattle.board_items.specs.declared.item.Item.{Item}
+use Rattle.one_item.specs.declared.item.Item.{Item}
 use Rattle.rule_pick.specs.FactsOf.{MeetsArea, AreNamesOf}
 use Rattle.item_facts.specs.FoundNames.{ArePrefix}
 use Rattle.item_facts.specs.NearItems.{picked}

@@ -2,7 +2,7 @@ use Rattle.std.proofs.Common.{◌≡◌, ap, sym, subst, ◌∙◌, ℕ, suc, �
 use Rattle.std.proofs.Math.Seq.{drop-cons}
 use Rattle.std.proofs.Math.ListN.{drop_of_length-le}
 use Rattle.box_index.specs.Tiles.{PlainIndex}
-use Rattle.board_items.specs.declared.item.Item.{Item}
+use Rattle.one_item.specs.declared.item.Item.{Item}
 use Rattle.board_items.specs.Boards.{marks_of}
 use Rattle.item_facts.proofs.Marked.{AreMarked, none_marked, is_absent, none_there, more_marked, all_marked}
 use Rattle.item_facts.proofs.near.index_marks.Goals as goal

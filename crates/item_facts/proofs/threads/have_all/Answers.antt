@@ -1,7 +1,7 @@
 use Rattle.std.proofs.Common.{◌≡◌, refl, subst, ℕ, List, true, Option, None, Some, IsSome}
 use Rattle.std.specs.Option.{is_some, option_copied}
 use denote.Ref.{Bor}
-use Rattle.board_items.specs.declared.item.Item.{Item}
+use Rattle.one_item.specs.declared.item.Item.{Item}
 use Rattle.board_items.specs.BoardIterators.{items_left}
 use Rattle.rule_pick.specs.declared.facts.Facts.{Facts}
 use Rattle.item_facts.proofs.Filled.{HaveSoFar, one_more}

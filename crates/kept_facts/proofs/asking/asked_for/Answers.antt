@@ -1,7 +1,7 @@
 use Rattle.std.proofs.Common.{◌∙◌, inl, inr, ap, subst, Option, arith}
 use Rattle.std.specs.Option.{option_copied}
 use Rattle.std.proofs.lemmas.List.{get_or_default}
-use Rattle.board_items.specs.declared.item.Item.{Item}
+use Rattle.one_item.specs.declared.item.Item.{Item}
 use Rattle.kept_facts.specs.FactUpdates.{mark_at, mark_of}
 use Rattle.kept_facts.specs.ConcernedItems.{HasConcerned}
 use Rattle.kept_facts.proofs.Concerns.{asked_more}

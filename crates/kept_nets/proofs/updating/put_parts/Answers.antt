@@ -1,7 +1,7 @@
 use Rattle.std.proofs.Common.{◌≡◌, ◌<◌, ℕ, List, [], ◌∷◌, ◌++◌, length, arith, refl, sym, subst, ap, ◌∙◌, All}
 use Rattle.std.proofs.lemmas.List.{length-set}
-use Rattle.kept_nets.specs.declared.works.Work.{Work}
-use Rattle.kept_nets.specs.Works.{IsPlan}
+use Rattle.net_groups.specs.declared.works.Work.{Work}
+use Rattle.kept_nets.specs.NetPlans.{IsPlan}
 use Rattle.kept_nets.proofs.Plans.{plan_done, plan_empty, all_prefix}
 use Rattle.kept_nets.proofs.Touched.{are_parts}
 use Rattle.kept_nets.proofs.updating.put_parts.Goals as goal

@@ -1,7 +1,7 @@
 use Rattle.std.proofs.Common.{◌<◌, ℕ, List, length, All, vec_len}
 use Rattle.board_items.specs.Boards.{PlainBoard}
-use Rattle.kept_nets.specs.declared.works.Work.{Work}
-use Rattle.kept_nets.specs.Works.{IsPlan}
+use Rattle.net_groups.specs.declared.works.Work.{Work}
+use Rattle.kept_nets.specs.NetPlans.{IsPlan}
 use Rattle.kept_nets.proofs.updating.put_parts.Given as goal
 
 abbrev pub invariant-loop-work : goal.invariant-loop-work

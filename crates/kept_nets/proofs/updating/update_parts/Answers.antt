@@ -1,11 +1,12 @@
 use Rattle.std.proofs.Common.{ℕ, List, length, take, drop, ◌++◌, OnOk, Result, Ok, Err, sym, subst}
 use Rattle.std.specs.List.{AllZip}
-use Rattle.kept_nets.specs.declared.works.Work.{Work}
-use Rattle.kept_nets.specs.Works.{AreFound, AreWorksUpTo, IsPlan}
+use Rattle.net_groups.specs.declared.works.Work.{Work}
+use Rattle.net_groups.specs.Works.{AreFound}
+use Rattle.kept_nets.specs.NetPlans.{AreWorksUpTo, IsPlan}
 use Rattle.net_groups.specs.NetParts.{IsNetPart}
 use Rattle.kept_nets.proofs.Plans.{planned}
 use Rattle.kept_nets.proofs.Touched.{numbers, long_numbers, own_numbers, others_stay}
-use Rattle.kept_nets.proofs.Written.{whole}
+use Rattle.net_groups.proofs.Written.{whole}
 use Rattle.kept_nets.proofs.updating.update_parts.Goals as goal
 
 then : {E : Type 0} {P Q : Type 0} (r : Result (Unit {0}) E) → OnOk r P → (P → Q) → OnOk r Q

@@ -1,7 +1,7 @@
 use Rattle.std.proofs.Common.{◌≡◌, ◌∙◌, ◌+◌, ◌<◌, length, get_or, refl, sym, subst, ap, true≢false, arith}
 use Rattle.board_laws.specs.Edits.{is_one_of}
 use Rattle.net_groups.specs.NetParts.{PlainNetPart}
-use Rattle.kept_nets.specs.Works.{AreWorksUpTo}
+use Rattle.kept_nets.specs.NetPlans.{AreWorksUpTo}
 use Rattle.kept_nets.proofs.Plans.{work_more, work_none}
 use Rattle.kept_nets.proofs.Touched.{numbers, number_at}
 use Rattle.kept_nets.proofs.updating.works_of.Goals as goal

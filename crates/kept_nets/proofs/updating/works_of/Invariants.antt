@@ -1,5 +1,5 @@
 use Rattle.std.proofs.Common.{map}
-use Rattle.kept_nets.specs.Works.{AreWorksUpTo}
+use Rattle.kept_nets.specs.NetPlans.{AreWorksUpTo}
 use Rattle.kept_nets.proofs.updating.works_of.Given as goal
 
 abbrev pub invariant-loop-place : goal.invariant-loop-place

@@ -5,7 +5,7 @@ use mir.Syntax.{w64}
 use Rattle.plain_types.specs.Lengths.{IsLength}
 use Rattle.geo_seg.specs.Distances.{IsGap}
 use Rattle.int_algebra.proofs.Scalars.{passed}
-use Rattle.board_items.specs.declared.item.Item.{Item}
+use Rattle.one_item.specs.declared.item.Item.{Item}
 use Rattle.cond_lang.specs.declared.kind.Kind.{Kind}
 use Rattle.kind_subjects.specs.declared.layer.RowLayer.{RowLayer}
 use Rattle.kind_subjects.specs.MeasuredPair.{KeepAt}

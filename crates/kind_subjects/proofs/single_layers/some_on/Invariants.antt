@@ -1,5 +1,5 @@
 use Rattle.std.proofs.Common.{ℕ, ◌<◌, ◌≡◌, false, get_or}
-use Rattle.board_items.specs.declared.parts.Part.{Part}
+use Rattle.one_item.specs.declared.parts.Part.{Part}
 use Rattle.copper_layers.specs.Layers.{has_layer}
 use Rattle.kind_subjects.proofs.single_layers.some_on.Given as goal
 

@@ -1,7 +1,7 @@
 use Rattle.std.proofs.Common.{◌≡◌, ◌∙◌, ap, sym, ℕ, ◌+◌, ◌<◌, Bool, List, ◌∷◌, ◌++◌, length, get_or, drop, cond, Option, None}
 use Rattle.std.proofs.lemmas.List.{drop_more}
 use Rattle.copper_layers.specs.declared.set.LayerSet.{LayerSet}
-use Rattle.board_items.specs.declared.parts.Part.{Part}
+use Rattle.one_item.specs.declared.parts.Part.{Part}
 use Rattle.part_read.specs.declared.placements.Placement.{Placement}
 use Rattle.part_read.specs.declared.figures.Drawing.{Drawing}
 use Rattle.part_read.specs.There.{both, after}

@@ -1,7 +1,7 @@
 use Rattle.std.proofs.Common.{◌≡◌, ◌∙◌, sym, ap, Option, Some, option_map}
 use Rattle.std.specs.Prelude.{option_and_then}
 use Rattle.geo_seg.specs.declared.shapes.Shape.{Shape}
-use Rattle.board_items.specs.declared.item.Hole.{Hole}
+use Rattle.one_item.specs.declared.item.Hole.{Hole}
 use Rattle.pad_read.specs.declared.sizes.Sizes.{Sizes}
 use Rattle.pad_read.specs.declared.sizes.RoundedRect.{RoundedRect}
 use Rattle.pad_read.specs.PadShapes.{oval_rounded_rect, turned_rounded_rect, rounded_rect_at}

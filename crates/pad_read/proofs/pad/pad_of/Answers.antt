@@ -3,7 +3,7 @@ use mir.Val.{SFits}
 use Rattle.sexpr_read.specs.TreeViews.{tree_of}
 use Rattle.board_errors.specs.declared.errors.BoardError.{BoardError}
 use Rattle.copper_layers.specs.declared.set.LayerSet.{LayerSet}
-use Rattle.board_items.specs.declared.item.Item.{Item}
+use Rattle.one_item.specs.declared.item.Item.{Item}
 use Rattle.list_read.specs.NamedElements.{element}
 use Rattle.part_read.specs.ElementResults.{in_needed}
 use Rattle.part_read.specs.BoardLayers.{layers_named}

@@ -1,5 +1,5 @@
 use Rattle.std.proofs.Common.{◌≡◌, sym, subst, Option, Some}
-use Rattle.board_items.specs.declared.item.Item.{Item}
+use Rattle.one_item.specs.declared.item.Item.{Item}
 use Rattle.rule_pick.specs.FactsOf.{AreFactsOf}
 use Rattle.pair_check.proofs.single.single_at.Goals as goal
 

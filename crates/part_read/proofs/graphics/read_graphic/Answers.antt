@@ -1,5 +1,5 @@
 use Rattle.std.proofs.Common.{◌∙◌, sym, ap, List, Ok}
-use Rattle.board_items.specs.declared.item.Item.{Item}
+use Rattle.one_item.specs.declared.item.Item.{Item}
 use Rattle.sexpr_read.specs.TreeViews.{tree_of}
 use Rattle.part_read.specs.Graphics.{one_item, graphic_by}
 use Rattle.part_read.proofs.Graphical.{graphic_ready}

@@ -1,7 +1,7 @@
 use Rattle.std.proofs.Common.{◌≡◌, ◌∙◌, refl, sym, ap, subst, ℕ, ◌<◌, List, [], ◌∷◌, ◌++◌, append_assoc, length, Result, Ok, Err, OnErr, arith}
 use Rattle.std.specs.Vec.Iter.{into_iter_items}
 use Rattle.board_errors.specs.declared.errors.BoardError.{BoardError}
-use Rattle.board_items.specs.declared.item.Item.{Item}
+use Rattle.one_item.specs.declared.item.Item.{Item}
 use Rattle.board_items.specs.Boards.{PlainBoard, with_item}
 use Rattle.part_read.specs.Ready.{AreReady}
 use Rattle.pcb_read.specs.BoardOf.{with_items, HasFirstOf}

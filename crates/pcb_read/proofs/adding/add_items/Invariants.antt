@@ -1,6 +1,6 @@
 use Rattle.std.proofs.Common.{◌≡◌, ◌++◌, length, List}
 use Rattle.std.specs.Vec.Iter.{into_iter_items, into_iter_len}
-use Rattle.board_items.specs.declared.item.Item.{Item}
+use Rattle.one_item.specs.declared.item.Item.{Item}
 use Rattle.part_read.specs.Ready.{AreReady}
 use Rattle.pcb_read.specs.BoardOf.{with_items}
 use Rattle.pcb_read.proofs.adding.add_items.Given as goal

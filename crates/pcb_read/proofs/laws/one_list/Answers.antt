@@ -1,6 +1,6 @@
 use Rattle.std.proofs.Common.{◌∙◌, ap, sym, List, Result}
 use Rattle.board_errors.specs.declared.errors.BoardError.{BoardError}
-use Rattle.board_items.specs.declared.item.Item.{Item}
+use Rattle.one_item.specs.declared.item.Item.{Item}
 use Rattle.pcb_read.specs.ItemText.{answer_further}
 use Rattle.pcb_read.proofs.OneReading.{one_added}
 use Rattle.pcb_read.proofs.laws.one_list.Goals as goal

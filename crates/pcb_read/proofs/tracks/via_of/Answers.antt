@@ -2,7 +2,7 @@ use Rattle.std.proofs.Common.{◌≡◌, sym, subst, Result, Ok}
 use Rattle.sexpr_read.specs.TreeViews.{tree_of}
 use Rattle.board_errors.specs.declared.errors.BoardError.{BoardError}
 use Rattle.copper_layers.specs.declared.set.LayerSet.{LayerSet}
-use Rattle.board_items.specs.declared.item.Item.{Item}
+use Rattle.one_item.specs.declared.item.Item.{Item}
 use Rattle.part_read.specs.NodeResults.{Gives}
 use Rattle.pcb_read.specs.Drafts.{via_draft}
 use Rattle.pcb_read.proofs.Drafting.{via_number, via_on, no_via}

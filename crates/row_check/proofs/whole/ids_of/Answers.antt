@@ -1,6 +1,6 @@
 use Rattle.std.proofs.Common.{◌≡◌, ◌++◌, ◌∙◌, ap, sym, ℕ, List, [], map}
 use Rattle.std.proofs.lemmas.List.{append-nil}
-use Rattle.board_items.specs.declared.item.Item.{Item}
+use Rattle.one_item.specs.declared.item.Item.{Item}
 use Rattle.board_items.specs.Boards.{PlainBoard}
 use Rattle.row_check.specs.Whole.{ids_of}
 use Rattle.row_check.proofs.WholeRows.{ids_rise}

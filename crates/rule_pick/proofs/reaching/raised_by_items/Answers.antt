@@ -1,5 +1,5 @@
 use Rattle.std.proofs.Common.{ℕ, ℤ, List, Option, subst}
-use Rattle.board_items.specs.declared.item.Item.{Item}
+use Rattle.one_item.specs.declared.item.Item.{Item}
 use Rattle.board_items.specs.BoardIterators.{items_left}
 use Rattle.rule_pick.specs.Reach.{local_clearances, one_if}
 use Rattle.rule_pick.specs.Raised.{IsRaised, IsRaisedSoFar}

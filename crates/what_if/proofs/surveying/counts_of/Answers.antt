@@ -12,8 +12,8 @@ use Rattle.what_if.proofs.surveying.counts_of.Goals as goal
 pub run_tiles-requires-sync-T : goal.run_tiles-requires-sync-T
 run_tiles-requires-sync-T g c κs within = param_sync 1 _ (arg_sync _ no _ (trials_cross _ _ _ (param_sync 0 _ c.type_bounds.sync-R) (param_sync 1 _ c.type_bounds.sync-G)))
 
-pub in_order-requires-clause-runs : goal.in_order-requires-clause-runs
-in_order-requires-clause-runs g c =
+pub in_order-counts-requires-clause-runs : goal.in_order-counts-requires-clause-runs
+in_order-counts-requires-clause-runs g c =
     let s = c.args.session.now.state in
     let commands = map plain_command c.args.commands.now in
     let are : AreCommandRuns s commands c.min-stride.result c.in_ok-runs.runs.items = c.in_ok-runs.ensures.answers in
@@ -23,4 +23,4 @@ pub returns : goal.returns
 returns g c =
     let commands = c.args.commands.now in
     let is = IsCount c.args.session.now.state in
-    IfOk-weaker c.in_order.result _ _ (λ counts are. counted is commands counts.items are.long are.each) c.in_order.ensures
+    IfOk-weaker c.in_order-counts.result _ _ (λ counts are. counted is commands counts.items are.long are.each) c.in_order-counts.ensures

@@ -1,7 +1,7 @@
 use Rattle.std.proofs.Common.{◌≡◌, ◌∙◌, sym, ap, subst, refl, true}
 use Rattle.sexpr_read.specs.TreeViews.{tree_of}
-use Rattle.board_items.specs.declared.item.What.TheVariants.{Fill}
-use Rattle.board_items.specs.declared.item.Item.{Item}
+use Rattle.one_item.specs.declared.item.What.TheVariants.{Fill}
+use Rattle.one_item.specs.declared.item.Item.{Item}
 use Rattle.copper_layers.specs.Layers.{single_layer}
 use Rattle.board_items.specs.Boards.{is_admitted}
 use Rattle.part_read.specs.ElementResults.{name_in}

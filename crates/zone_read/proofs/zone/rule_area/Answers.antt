@@ -1,6 +1,6 @@
 use Rattle.std.proofs.Common.{◌≡◌, sym, ap, subst, refl, true, []}
 use Rattle.sexpr_read.specs.TreeViews.{tree_of}
-use Rattle.board_items.specs.declared.item.Item.{Item}
+use Rattle.one_item.specs.declared.item.Item.{Item}
 use Rattle.board_items.specs.Boards.{is_admitted}
 use Rattle.zone_read.proofs.Filling.{area_is}
 use Rattle.zone_read.proofs.Admitting.{area_admitted}

@@ -1,6 +1,6 @@
 use Rattle.std.proofs.Common.{◌≡◌, ◌∙◌, sym, ap, subst, ℕ, List, length, codes, true, Some, Ok}
 use Rattle.sexpr_read.specs.TreeViews.{tree_of}
-use Rattle.board_items.specs.declared.item.Item.{Item}
+use Rattle.one_item.specs.declared.item.Item.{Item}
 use Rattle.list_read.specs.ListHeads.{has_head}
 use Rattle.part_read.specs.Lists.{before}
 use Rattle.zone_read.specs.ZoneOf.{fill_layer, fill_in_capacity, fills_after}

@@ -1,6 +1,6 @@
 use Rattle.std.proofs.Common.{◌≡◌, ◌<◌, ◌∷◌, ◌++◌, [], ℕ, List, Option, true, refl, subst, sym, ap, ◌∙◌, length}
 use Rattle.board_items.specs.Boards.{PlainBoard, with_item, is_admitted}
-use Rattle.board_items.specs.declared.item.Item.{Item}
+use Rattle.one_item.specs.declared.item.Item.{Item}
 use Rattle.board_items.specs.ItemSlots.{present, UnitsRise}
 use Rattle.board_items.specs.ItemNotes.{notes_of}
 use Rattle.board_items.specs.ItemRefusals.{capacity_of}

@@ -1,5 +1,5 @@
 use Rattle.std.proofs.Common.{◌≡◌, ◌<◌, ◌∙◌, ap, sym, subst, refl, ℕ, List, Option, length, get_or, set, cond, None, Some, arith}
-use Rattle.board_items.specs.declared.item.Item.{Item}
+use Rattle.one_item.specs.declared.item.Item.{Item}
 use Rattle.board_items.specs.Boards.{PlainBoard}
 use Rattle.board_items.specs.ItemSlots.{present, AreUnitsIn}
 use Rattle.board_items.specs.Tags.{AreTagsIn}

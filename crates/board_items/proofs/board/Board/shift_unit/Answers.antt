@@ -2,9 +2,9 @@ use Rattle.std.proofs.Common.{◌≡◌, true, List, Option, All, length, refl, 
 use Rattle.std.specs.List.{AllZip}
 use Rattle.std.specs.Vec.{with_items}
 use Rattle.int_algebra.proofs.Scalars.{passed, cleaned}
-use Rattle.board_items.specs.declared.item.Item.{Item}
+use Rattle.one_item.specs.declared.item.Item.{Item}
 use Rattle.board_items.specs.Boards.{PlainBoard}
-use Rattle.board_items.specs.ItemMoves.{unit_stays, IsMoved, HaveFirstPoints}
+use Rattle.board_items.specs.UnitMoves.{unit_stays, IsMoved, HaveFirstPoints}
 use Rattle.board_items.specs.ItemSlots.{present, is_slot_on_board, IsMovedSlot}
 use Rattle.board_items.proofs.SlotLists.{points_moved}
 use Rattle.board_items.proofs.Moving.{on_board, stays_passed, kept_moved, board_moved, notes_moved}

@@ -1,6 +1,6 @@
 use Rattle.std.proofs.Common.{◌≡◌, ◌++◌, ◌∙◌, ap, sym, map, List, length, Some, None, ℕ, arith}
 use Rattle.std.proofs.lemmas.List.{append-nil, map-append}
-use Rattle.board_items.specs.declared.item.Item.{Item}
+use Rattle.one_item.specs.declared.item.Item.{Item}
 use Rattle.board_items.specs.Boards.{item_at}
 use Rattle.board_items.specs.Back.{kept_entry, own_at}
 use Rattle.board_items.proofs.TakenOut.{own_is, own_none, id_none, no_item}

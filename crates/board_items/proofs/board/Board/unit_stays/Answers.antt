@@ -1,9 +1,9 @@
 use Rattle.std.proofs.Common.{◌≡◌, true, List, Option, All, length, sym, ◌∙◌, ap, subst, arith}
 use Rattle.std.specs.List.{list_all}
 use Rattle.int_algebra.proofs.Scalars.{passed, cleaned}
-use Rattle.board_items.specs.declared.item.Item.{Item}
+use Rattle.one_item.specs.declared.item.Item.{Item}
 use Rattle.board_items.specs.Boards.{PlainBoard}
-use Rattle.board_items.specs.ItemMoves.{unit_stays}
+use Rattle.board_items.specs.UnitMoves.{unit_stays}
 use Rattle.board_items.specs.ItemSlots.{present, is_slot_on_board, slot_stays}
 use Rattle.board_items.proofs.SlotLists.{stays_slots}
 use Rattle.board_items.proofs.Moving.{on_board}

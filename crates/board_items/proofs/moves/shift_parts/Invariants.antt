@@ -1,6 +1,0 @@
-use Rattle.geo_seg.proofs.Rewritten.{Rewritten}
-use Rattle.board_items.specs.ItemMoves.{IsShiftedPart}
-use Rattle.board_items.proofs.moves.shift_parts.Given as goal
-
-abbrev pub invariant-loop-part : goal.invariant-loop-part
-invariant-loop-part l = Rewritten (IsShiftedPart l.by.dx l.by.dy) l.part-index l.fn.parts l.parts

@@ -1,5 +1,0 @@
-use Rattle.std.proofs.Common.{◌≡◌, ◌++◌, drop}
-use Rattle.kept_nets.proofs.part.copy_groups.Given as goal
-
-abbrev pub invariant-loop-group : goal.invariant-loop-group
-invariant-loop-group l = l.groups ≡ l.copy.items ++ drop l.group-index l.groups
