@@ -57,8 +57,16 @@ def task_of(words, folder):
     return crate, 'proof'
 
 
-def seen_now():
-    """of each process of the prover: its number and start, its task, its seconds and its memory in MB"""
+def is_below(process, top):
+    """whether a process was begun by another, or by what that began"""
+    while process not in ('0', '1', top):
+        with open('/proc/%s/stat' % process) as file:
+            process = file.read().rpartition(')')[2].split()[1]
+    return process == top
+
+
+def seen_now(top):
+    """of each process of the prover, below that of this number if there is one: its number and start, its task, its seconds and its memory in MB"""
     for process in filter(str.isdigit, os.listdir('/proc')):
         try:
             with open('/proc/%s/comm' % process) as file:
@@ -70,14 +78,15 @@ def seen_now():
                 fields = file.read().rpartition(')')[2].split()
             with open('/proc/%s/status' % process) as file:
                 most = re.search(r'VmHWM:\s+(\d+)', file.read())
+            is_ours = task and (not top or is_below(process, top))
         except (OSError, ValueError, IndexError):
             continue
-        if task:
+        if is_ours:
             yield (process, fields[19]), task, (int(fields[11]) + int(fields[12])) / TICK, int(most[1]) / 1024 if most else 0
 
 
-def note(seen):
-    for key, task, seconds, memory in seen_now():
+def note(seen, top):
+    for key, task, seconds, memory in seen_now(top):
         before = seen.get(key, (task, 0, 0))
         seen[key] = task, max(seconds, before[1]), max(memory, before[2])
 
@@ -104,7 +113,7 @@ def watch(log, command):
         os.set_blocking(ran.stdout.fileno(), False)
     try:
         while ran is None or ran.poll() is None:
-            note(seen)
+            note(seen, str(ran.pid) if ran else '')
             if ran:
                 said = tail(ran, said)
             if time.time() - saved > 10:

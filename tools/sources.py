@@ -6,7 +6,10 @@ import re
 
 ROOT = os.path.dirname(os.path.dirname(os.path.abspath(__file__)))
 OPENING = re.compile(r'(?:pub(?:\(crate\))? )?(?:const |unsafe )*fn (\w+)')
-CLAUSE = re.compile(r'\s*(requires|ensures)\b\s*(\w*)\s*\{')
+# A clause, with the comments above it.
+CLAUSE = re.compile(r'(?:\s*//[^\n]*\n)*\s*(requires|ensures)\b\s*(\w*)\s*\{')
+# What stands behind all clauses: a body, or the end.
+BEHIND = re.compile(r'(?:\s|//[^\n]*\n)*[{;]')
 
 
 def read(*parts):
@@ -218,6 +221,8 @@ def functions_of(crate, path):
             closed = end_of_braces(text, clause.end() - 1)
             clauses.append((clause.group(1), clause.group(2), ' '.join(text[clause.end():closed - 1].split())))
             behind = closed
+        if not BEHIND.match(text, behind):
+            raise ValueError('%s:%d: a clause that is not read as one' % (path, number + 1))
         seen = 'pub' if line.strip().startswith('pub ') or (is_trait and not line.strip().startswith('pub')) else 'crate' if line.strip().startswith('pub(crate)') else ''
         exported = owner in types if owner else module in public or module == 'lib' or (module, match.group(1)) in names
         found.append(Function(crate=crate, path=path, line=number + 1, module=module, name=match.group(1), owner=owner, seen=seen,

@@ -121,7 +121,7 @@ def not_made(tries, clone):
 
 def broken_off(tries, clone):
     process = clone.begin('forever', jobs=None)
-    until = time.monotonic() + 20
+    until = time.monotonic() + 120
     calls = []
     while not calls and time.monotonic() < until:
         time.sleep(0.1)
@@ -129,7 +129,7 @@ def broken_off(tries, clone):
     jobs = int(calls[0].split(' ')[-1]) if calls else 0
     tries.true('as many crates at once as there are processors at most', 1 <= jobs <= os.cpu_count())
     process.send_signal(signal.SIGTERM)
-    process.communicate(timeout=20)
+    process.communicate(timeout=120)
     tries.same('a call that is ended', (process.returncode, clone.called()), (125, ['ended']))
     tries.true('nothing that is left', not os.path.exists(os.path.join(clone.path, 'crates/drc_cli/out/drc.log.begun')))
 
