@@ -1,9 +1,9 @@
 -- A unit that is moved gives one board.
-use Rattle.std.proofs.Common.{◌≡◌, ◌∙◌, ap, sym, refl, ℕ, ℤ, Bool, true, false, List, [], ◌∷◌, MatchBool}
+use Rattle.std.proofs.Common.{◌≡◌, ◌∙◌, ap, sym, refl, ℕ, ℤ, Bool, true, false, List, MatchBool}
 use Rattle.std.specs.List.{AllZip}
 use Rattle.one_item.specs.declared.item.Item.{Item}
 use Rattle.one_item.specs.ItemMoves.{IsShiftedItem}
-use Rattle.one_item.proofs.OneShift.{item_once}
+use Rattle.one_item.proofs.OneShift.{zip_once, item_once}
 use Rattle.board_items.specs.Boards.{PlainBoard}
 use Rattle.board_items.specs.UnitMoves.{moves, IsMovedEntry, IsMoved}
 
@@ -16,12 +16,7 @@ module _ (unit : ℕ) (dx dy : ℤ) where
       by false p q = p ∙ sym q
 
   entries_once : (es fs gs : List (ℕ × Item)) → AllZip (IsMovedEntry unit dx dy) es fs → AllZip (IsMovedEntry unit dx dy) es gs → fs ≡ gs
-  entries_once [] [] [] h k = refl
-  entries_once [] [] (g ∷ gs) h k = absurd k
-  entries_once [] (f ∷ fs) gs h k = absurd h
-  entries_once (e ∷ es) [] gs h k = absurd h
-  entries_once (e ∷ es) (f ∷ fs) [] h k = absurd k
-  entries_once (e ∷ es) (f ∷ fs) (g ∷ gs) h k = ap (λ x. x ∷ fs) (entry_once e f g h.0 k.0) ∙ ap (λ xs. g ∷ xs) (entries_once es fs gs h.1 k.1)
+  entries_once = zip_once (IsMovedEntry unit dx dy) entry_once
 
   pub one_move : (old a b : PlainBoard) → IsMoved unit dx dy old a → IsMoved unit dx dy old b → a ≡ b
   one_move old a b h k = h.others ∙ (ap (λ (items : List (ℕ × Item)). record old { items = items }) (entries_once old.items a.items b.items h.items k.items) ∙ sym k.others)

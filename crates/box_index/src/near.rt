@@ -38,7 +38,8 @@ pub fn push_ids_near(
     ids: &mut Vec<u32>,
 ) -> Result<(), AllocError>
     requires { FitsIndex bounds }
-    ensures reached { OnOk result (HasReached bounds index.now.entries ids.old.items ids.new.items) }
+    ensures reached { OnOk result
+        (HasReached bounds index.now.entries ids.old.items ids.new.items) }
     ensures prefix { BeginsWith ids.old.items ids.new.items }
 {
     let area = index.area(bounds);

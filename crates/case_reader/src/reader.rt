@@ -234,7 +234,8 @@ fn read_line(
     Ok(())
 }
 
-/// Reads a line, and says whether lines that add to a text may follow it.
+/// Reads one line into the draft, and gives whether lines that add to a text may follow it. `in_text` says whether this one may add;
+/// `others` are the lines after it.
 fn read_next(
     alloc: Global,
     shorthands: &mut Shorthands,

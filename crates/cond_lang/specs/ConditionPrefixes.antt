@@ -45,7 +45,7 @@ IsFirstFault text k =
 abbrev pub LengthGoesOn : List ℕ → Type 0
 LengthGoesOn prefix = (more : List ℕ) × (spelled (length (prefix ++ more)) (prefix ++ more) ≡ read tt [])
 
--- the first j bytes are the front of a length, and with one byte more they are of none
+-- the first j bytes are a prefix of a length, and with one byte more they are a prefix of none
 abbrev pub IsFirstOfLength : List ℕ → ℕ → Type 0
 IsFirstOfLength text j =
     (prefix rest : List ℕ) × (text ≡ prefix ++ rest) × (length prefix ≡ j) × LengthGoesOn prefix

@@ -121,7 +121,7 @@ impl Kind {
         matches!(self.special(), Special::Claims)
     }
 
-    /// Its number, from 1 to 15.
+    /// The number of the kind, from 1 to 15.
     pub fn number(self) -> u32
         ensures { result ≡ kind_number self }
     {

@@ -1,4 +1,4 @@
-//! Which layers a rule acts on, how much a broken one weighs, and which items it bans.
+//! Which layers a rule acts on, the severity of a broken one, and which items it bans.
 
 /// On which layers a rule acts. Layers are numbered from front to back, as their bits are: 0 is F.Cu, 31 is B.Cu, and
 /// the inner ones lie between.
@@ -13,7 +13,7 @@ pub enum RuleLayer {
     One(u32),
 }
 
-/// How much a broken rule weighs. The last two give no row.
+/// The severity of a broken rule. The last two give no row.
 #[derive(Clone, Copy, Debug, Drop, PartialEq, Eq)]
 pub enum Severity {
     Error,

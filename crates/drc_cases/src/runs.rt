@@ -9,25 +9,6 @@ use std::alloc::{AllocError, AllocGlobal};
 use std::io::Print;
 use std::thread::Threads;
 
-/// How the program ends on this.
-fn run<R: Threads + Sync + AllocGlobal>(
-    rt: &R,
-    given: &Given,
-    gate: &Turns,
-    expected: usize,
-    shorter: Option<Shorter<'_>>,
-) -> Result<Outcome, AllocError> {
-    let alloc = rt.alloc();
-    let mut shelf = given.shelf(alloc, shorter)?;
-    let mut out = given.sink(alloc, expected)?;
-    let words: Vec<&str> = given.words.iter().map(|word| word.as_str()).collect(alloc)?;
-    let status = run_all(rt, &words, &mut shelf, &mut out, gate);
-    Ok(Outcome {
-        status,
-        text: out.bytes().to_vec(alloc)?,
-    })
-}
-
 /// How the program or the call ends on this, where a file may be cut and so many bytes are expected.
 pub fn outcome<R: Threads + Sync + AllocGlobal + Print>(
     rt: &R,
@@ -37,8 +18,15 @@ pub fn outcome<R: Threads + Sync + AllocGlobal + Print>(
     shorter: Option<Shorter<'_>>,
 ) -> Result<Outcome, AllocError> {
     if given.is_call {
-        made(rt, given, gate)
-    } else {
-        run(rt, given, gate, expected, shorter)
+        return made(rt, given, gate);
     }
+    let alloc = rt.alloc();
+    let mut shelf = given.shelf(alloc, shorter)?;
+    let mut out = given.sink(alloc, expected)?;
+    let words: Vec<&str> = given.words.iter().map(|word| word.as_str()).collect(alloc)?;
+    let status = run_all(rt, &words, &mut shelf, &mut out, gate);
+    Ok(Outcome {
+        status,
+        text: out.bytes().to_vec(alloc)?,
+    })
 }

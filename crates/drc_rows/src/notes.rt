@@ -180,7 +180,7 @@ fn push_constraint<W: Sink>(
     buffer.push(out, b"\n")
 }
 
-/// Puts the lines of all constraints that no rule may have into the buffer.
+/// Puts the lines of all constraints whose name is that of no kind into the buffer.
 fn push_constraints<W: Sink>(
     buffer: &mut ReportBuffer,
     out: &mut W,

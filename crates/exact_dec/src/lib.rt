@@ -196,7 +196,7 @@ fn half_up(negative: bool, halves: Quotient) -> u64
     }
 }
 
-/// So many units, cut toward zero.
+/// The decimal times the unit, cut toward zero to whole nanometres.
 fn cut(text: &[u8], parts: &DecimalParts<'_>, unit: u64) -> Result<Nm, DecError>
     requires unit { unit ≤ 500000000 }
     requires digits { HasDigits (spelled parts.now) }
@@ -213,7 +213,7 @@ fn cut(text: &[u8], parts: &DecimalParts<'_>, unit: u64) -> Result<Nm, DecError>
     }
 }
 
-/// So many units, to the nearest nanometre, ties upward.
+/// The decimal times the unit, to the nearest nanometre, ties upward.
 fn nearest(text: &[u8], parts: &DecimalParts<'_>, unit: u64) -> Result<Nm, DecError>
     requires unit { unit ≤ 500000000 }
     requires digits { HasDigits (spelled parts.now) }

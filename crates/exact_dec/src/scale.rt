@@ -76,7 +76,7 @@ fn step(behind: Quotient, digit: u64, unit: u64) -> Quotient
 
 /// The unit times these digits right behind the point, with `behind` for what follows them. The digits are
 /// taken from the last to the first, each time with the whole part and whether anything was left over,
-/// which is all that the next digit can hang on.
+/// on which alone the next digit depends.
 fn digits_behind(digits: &[u8], unit: u64, behind: Quotient) -> Quotient
     requires unit { unit ≤ 1000000000 }
     requires digits { all_ascii_digits digits.now ≡ true }

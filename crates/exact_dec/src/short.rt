@@ -15,7 +15,7 @@ pub(crate) struct Usual {
     pub(crate) nanometres: u64,
 }
 
-/// The digits at the prefix of a text, as a number.
+/// The digits at the front of a text: their number, and how many they are.
 #[derive(Clone, Copy)]
 struct Run {
     n: u64,

@@ -21,6 +21,7 @@ fn seg_core_apart(s: Seg, core: &Core, d: i64) -> bool
     }
 }
 
+/// Whether a point of the segment and a point of the core are at most d half nanometres from each other.
 fn seg_core_within(s: Seg, core: &Core, d: i64) -> bool
     requires { IsDistance d }
     ensures { IsTrue result ↔ AreWithin (IsPointOf core.now) (IsOn s) d }

@@ -24,7 +24,7 @@ pub record HasNear (index : PlainIndex) (mark : Option Item) (old new : List ℕ
   pub kept : (id : ℕ) → Contains old id → Contains new id
   pub met : (id : ℕ) (item other : Item) → mark ≡ Some other → HasEntry index id item → MayMeetItem item other → Contains new id
 
--- none is gone, and among them are those of these ids whose items have another name from the one than from the other
+-- none is gone, and among them are those of these ids whose items have another name from the area or body before than from the one now
 pub record HasOthers (board : PlainBoard) (near : List ℕ) (before now : Option Item) (old new : List ℕ) : Type 0 where
   pub kept : (id : ℕ) → Contains old id → Contains new id
   pub others : (id : ℕ) (item : Item) → Contains near id → item_at board.items id ≡ Some item → Contains new id ⊎ GiveSame item before now

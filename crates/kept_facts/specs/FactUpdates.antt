@@ -31,7 +31,7 @@ abbrev pub GivesIf : (What → List ℕ → Type 0) → Option Item → List ℕ
 GivesIf Gives None name = ⊥
 GivesIf Gives (Some mark) name = Gives mark.what name
 
--- the item has the same name from the one as from the other, or none from both
+-- the item has the same name from the area or body before as from the one now, or none from both
 pub record GiveSame (item : Item) (before now : Option Item) : Type 0 where
   pub areas : (name : List ℕ) → (GivesIf (MeetsArea item) before name ↔ GivesIf (MeetsArea item) now name)
   pub courtyards : (name : List ℕ) → (GivesIf (MeetsCourtyard item) before name ↔ GivesIf (MeetsCourtyard item) now name)

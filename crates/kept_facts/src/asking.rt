@@ -39,7 +39,7 @@ fn push_near(index: &TileIndex, mark: Option<&Item>, ids: &mut Vec<u32>) -> Resu
     }
 }
 
-/// Whether the item of the id, if there is one, has the same name from the one as from the other.
+/// Whether the item of the id, if there is one, has the same name from the area or body `before` as from the one `now`, or none from both.
 fn is_unconcerned(board: &Board, id: u32, before: Option<&Item>, now: Option<&Item>) -> bool
     ensures { IsTrue result
         ↔ ((item : Item) → item_at board.now.items id ≡ Some item
@@ -51,7 +51,7 @@ fn is_unconcerned(board: &Board, id: u32, before: Option<&Item>, now: Option<&It
     }
 }
 
-/// Appends those of the ids whose items have another name from the one than from the other.
+/// Appends those of the ids whose items have another name from the area or body `before` than from the one `now`.
 fn push_others(
     board: &Board,
     near: &[u32],

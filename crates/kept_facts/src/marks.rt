@@ -109,7 +109,7 @@ fn is_same(a: Option<&Name>, b: Option<&Name>) -> bool
     }
 }
 
-/// Whether the item has the same name from the one as from the other, or none from both.
+/// Whether the item has the same name from the area or body `before` as from the one `now`, or none from both.
 pub(crate) fn give_same(item: &Item, before: Option<&Item>, now: Option<&Item>) -> bool
     ensures { IsTrue result
         ↔ GiveSame item.now (option_copied before.entry) (option_copied now.entry) }

@@ -1,34 +1,14 @@
 -- Boxes around parts.
-use Rattle.std.proofs.Common.{◌≡◌, ℕ, ◌+◌, ◌<◌, ◌++◌, length, take, get_or, suc, add-one, ℤ, List, [], ◌∷◌, Option, None, Some, sym, ◌∙◌, ap, subst, arith}
-use Rattle.std.proofs.lemmas.Int.{ints}
+use Rattle.std.proofs.Common.{◌≡◌, ℕ, ◌+◌, ◌<◌, ◌++◌, length, take, get_or, suc, add-one, List, [], ◌∷◌, Option, None, Some, sym, ◌∙◌, ap, subst}
 use Rattle.std.proofs.Math.Seq.{take-suc}
 use Rattle.std.proofs.lemmas.List.{append_assoc}
-use Rattle.int_algebra.proofs.Order.{le_trans, le_refl}
 use Rattle.geo_seg.specs.declared.boxes.Bounds.{Bounds}
 use Rattle.geo_seg.specs.declared.shapes.Shape.{Shape}
 use Rattle.geo_seg.specs.Boxes.{IsPartOf, widened}
 use Rattle.geo_seg.specs.Cores.{IsBoundsOf}
+use Rattle.geo_seg.proofs.Unions.{part_refl, part_trans, widened_part}
 use Rattle.one_item.specs.declared.parts.Part.{Part}
 use Rattle.one_item.specs.Extents.{LiesIn, AllLieIn, AreBoundsOf}
-
-pub part_refl : (b : Bounds) → IsPartOf b b
-part_refl b = record { left = le_refl b.left; top = le_refl b.top; right = le_refl b.right; bottom = le_refl b.bottom }
-
-pub part_trans : (a b c : Bounds) → IsPartOf a b → IsPartOf b c → IsPartOf a c
-part_trans a b c h k = record {
-  left = le_trans c.left b.left a.left k.left h.left;
-  top = le_trans c.top b.top a.top k.top h.top;
-  right = le_trans a.right b.right c.right h.right k.right;
-  bottom = le_trans a.bottom b.bottom c.bottom h.bottom k.bottom;
-}
-
-widened_part : (a b : Bounds) (r : ℤ) → IsPartOf a b → IsPartOf (widened a r) (widened b r)
-widened_part a b r h = record {
-  left = omega (arith, ints, h.left);
-  top = omega (arith, ints, h.top);
-  right = omega (arith, ints, h.right);
-  bottom = omega (arith, ints, h.bottom);
-}
 
 -- of two boxes that are the bounds of one shape each lies in the other
 bounds_part : (s : Shape) (b c : Bounds) → IsBoundsOf s b → IsBoundsOf s c → IsPartOf b c

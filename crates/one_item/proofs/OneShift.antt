@@ -15,17 +15,23 @@ use Rattle.one_item.specs.declared.item.Item.{Item}
 use Rattle.one_item.specs.ItemMoves.{IsShiftedPart, AreShifted, IsShiftedHole, HoleIsShifted, KindIsShifted, IsShiftedItem}
 use Rattle.one_item.proofs.EqualItems.{point_is, shape_is, hole_is, item_is}
 
+-- lists that stand in one way to a list are one where each element is
+pub zip_once : {A B : Type 0} (R : A → B → Type 0) → ((a : A) (b c : B) → R a b → R a c → b ≡ c)
+    → (ps : List A) (qs rs : List B) → AllZip R ps qs → AllZip R ps rs → qs ≡ rs
+zip_once R once [] [] [] h k = refl
+zip_once R once [] [] (b ∷ rs) h k = absurd k
+zip_once R once [] (a ∷ qs) rs h k = absurd h
+zip_once R once (p ∷ ps) [] rs h k = absurd h
+zip_once R once (p ∷ ps) (a ∷ qs) [] h k = absurd k
+zip_once R once (p ∷ ps) (a ∷ qs) (b ∷ rs) h k =
+    ap (λ x. x ∷ qs) (once p a b h.0 k.0) ∙ ap (λ xs. b ∷ xs) (zip_once R once ps qs rs h.1 k.1)
+
 module _ (dx dy : ℤ) where
   point_once : (p a b : Point) → IsShiftedPoint dx dy p a → IsShiftedPoint dx dy p b → a ≡ b
   point_once p a b h k = point_is a b (h.x ∙ sym k.x) (h.y ∙ sym k.y)
 
   points_once : (ps qs rs : List Point) → AllZip (IsShiftedPoint dx dy) ps qs → AllZip (IsShiftedPoint dx dy) ps rs → qs ≡ rs
-  points_once [] [] [] h k = refl
-  points_once [] [] (b ∷ rs) h k = absurd k
-  points_once [] (a ∷ qs) rs h k = absurd h
-  points_once (p ∷ ps) [] rs h k = absurd h
-  points_once (p ∷ ps) (a ∷ qs) [] h k = absurd k
-  points_once (p ∷ ps) (a ∷ qs) (b ∷ rs) h k = ap (λ x. x ∷ qs) (point_once p a b h.0 k.0) ∙ ap (λ xs. b ∷ xs) (points_once ps qs rs h.1 k.1)
+  points_once = zip_once (IsShiftedPoint dx dy) point_once
 
   core_once : (c a b : Core) → IsShiftedCore dx dy c a → IsShiftedCore dx dy c b → a ≡ b
   core_once (Line s) (Line t) (Line u) h k =
@@ -44,12 +50,7 @@ module _ (dx dy : ℤ) where
       ap (λ (l : LayerSet). record a { layers = l }) (h.layers ∙ sym k.layers) ∙ ap (λ (s : Shape). record b { shape = s }) (shape_once p.shape a.shape b.shape h.shape k.shape)
 
   parts_once : (ps qs rs : List Part) → AreShifted dx dy ps qs → AreShifted dx dy ps rs → qs ≡ rs
-  parts_once [] [] [] h k = refl
-  parts_once [] [] (b ∷ rs) h k = absurd k
-  parts_once [] (a ∷ qs) rs h k = absurd h
-  parts_once (p ∷ ps) [] rs h k = absurd h
-  parts_once (p ∷ ps) (a ∷ qs) [] h k = absurd k
-  parts_once (p ∷ ps) (a ∷ qs) (b ∷ rs) h k = ap (λ x. x ∷ qs) (part_once p a b h.0 k.0) ∙ ap (λ xs. b ∷ xs) (parts_once ps qs rs h.1 k.1)
+  parts_once = zip_once (IsShiftedPart dx dy) part_once
 
   hole_once : (h a b : Hole) → IsShiftedHole dx dy h a → IsShiftedHole dx dy h b → a ≡ b
   hole_once h a b p q = hole_is a b (shape_once h.shape a.shape b.shape p.shape q.shape) (p.layers ∙ sym q.layers) (p.plated ∙ sym q.plated) (p.least ∙ sym q.least)

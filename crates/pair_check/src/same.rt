@@ -18,6 +18,7 @@ fn same_lengths(a: &Row, b: &Row) -> bool
     a.value == b.value && a.gap == b.gap && a.over == b.over
 }
 
+/// Whether two rows have one source and one severity.
 fn same_causes(a: &Row, b: &Row) -> bool
     ensures { result ≡ same_causes a.now b.now }
 {

@@ -197,7 +197,7 @@ impl fmt::Display for Reason {
     }
 }
 
-/// What tells why it refuses.
+/// An error that tells why something is refused.
 pub trait HasReason {
     ghost use Rattle.std.specs.Prelude.{ℕ, ◌≡◌, ◌≤◌, length};
     ghost use Rattle.plain_types.specs.Reasons.{PlainReason};

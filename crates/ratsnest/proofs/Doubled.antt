@@ -1,4 +1,4 @@
--- An anchor at the spot of another that stands at a lower place has no lesser link.
+-- An anchor at the point of another that stands at a lower place has no lesser link.
 use Rattle.std.proofs.Common.{◌≡◌, ℕ, zero, suc, ◌+◌, ◌≤◌, ◌<◌, min, max, List, length, get_or, inl, inr, refl, sym, ◌∙◌, ap, subst, arith}
 use Rattle.std.proofs.lemmas.Bool.{cases_eq}
 use Rattle.ratsnest.specs.declared.waiting.Waiting.{Waiting}

@@ -1,4 +1,4 @@
--- An anchor that stands for another: of its group, at its spot and no later in the list. Its links are never more.
+-- An anchor that stands for another: of its group, at its point and no later in the list. Its links are never more.
 use Rattle.std.proofs.Common.{◌≡◌, ℕ, ◌+◌, ◌≤◌, ◌<◌, min, max, List, [], ◌∷◌, ◌++◌, unsigned_abs, ◌-ℤ◌, ℤ, inl, inr, refl, sym, ◌∙◌, ap, subst, All, arith}
 use Rattle.std.proofs.lemmas.Bool.{cases_lt}
 use Rattle.std.proofs.lemmas.Int.{ints}

@@ -32,14 +32,14 @@ pub record IsFromFirst (anchors : List Anchor) (j : ℕ) (w : Waiting) : Type 0 
   pub anchor : w.anchor ≡ anchor_at anchors j
   pub link : w.link ≡ link_at anchors 0 j
 
--- the anchor at the first place is of the group of the other and at its spot, no later in the list: its links are never more
+-- the anchor at the first place is of the group of the other and at its point, no later in the list: its links are never more
 pub record StandsFor (anchors : List Anchor) (i j : ℕ) : Type 0 where
   pub lower : i ≤ j
   pub group : group_at anchors i ≡ group_at anchors j
   pub x : (anchor_at anchors i).x ≡ (anchor_at anchors j).x
   pub y : (anchor_at anchors i).y ≡ (anchor_at anchors j).y
 
--- one that waits is of the group of the anchor and at its spot
+-- one that waits is of the group of the anchor and at its point
 pub record IsLed (waiting : List Waiting) (anchor : Anchor) : Type 0 where
   pub lead : Waiting
   pub there : Contains waiting lead
@@ -68,7 +68,7 @@ pub record IsDrawnToAll (joined : List Waiting) (old new : Waiting) : Type 0 whe
   pub not_old : rank new.link ≤ rank old.link
   pub not_others : (k : ℕ) (d : Waiting) → k < length joined → rank new.link ≤ rank (link_between (slice_index_or joined k d) old)
 
--- one of the list stands at the same spot, at a lower place
+-- one of the list stands at the same point, at a lower place
 pub record IsDoubled (joined : List Waiting) (m : Waiting) : Type 0 where
   pub twin : Waiting
   pub there : Contains joined twin

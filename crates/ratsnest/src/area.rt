@@ -67,7 +67,7 @@ fn with_anchor(area: Area, anchor: Anchor) -> Area
     }
 }
 
-/// The area of the anchors from one place to another.
+/// An area that holds the anchors from the place `low` up to `high`.
 pub(crate) fn area_of(indexed_anchors: &[IndexedAnchor], low: usize, high: usize) -> Area
     ensures { (i : ℕ) → low ≤ i → i < high → i < length indexed_anchors.now
         → IsLinkInside result (indexed_anchor_at indexed_anchors.now i).anchor }

@@ -71,7 +71,8 @@ fn take_in(
     requires few { length anchors.now < 2 ^ 32 }
     requires grown { IsGrown anchors.now reached.old waiting.old.items links.old.items }
     requires some { 0 < length waiting.old.items }
-    ensures grown { OnOk result (IsGrown anchors.now reached.new waiting.new.items links.new.items) }
+    ensures grown { OnOk result
+        (IsGrown anchors.now reached.new waiting.new.items links.new.items) }
     ensures len { OnOk result (length links.new.items ≡ length links.old.items + 1) }
 {
     let next = waiting[least(waiting)];

@@ -10,7 +10,8 @@ use crate::link::Link;
 use crate::places::{is_below, link_of, link_with_places, precedes, square};
 use std::alloc::{AllocError, Global};
 
-/// Among so many that wait an anchor is looked for at the spot of the next: an end of a track mostly stands at one of the last before it.
+/// Among so many that wait an anchor is looked for at the point of the next: an end of a track mostly stands at one of the last
+/// before it.
 const LAST: usize = 4;
 
 /// An anchor that is not reached, its place in the list of anchors, and its least link from an anchor that is reached.
@@ -51,7 +52,7 @@ fn draw_near(waiting: &mut [Waiting], from: &Waiting)
     }
 }
 
-/// Whether the first stands at the very spot of the second, at a lower place in the list: then its links are less.
+/// Whether the first stands at the point of the second, at a lower place in the list: then its links are less.
 fn is_lower_twin(first: &Waiting, second: &Waiting) -> bool
     ensures { IsTrue result → (first.now.place < second.now.place)
         × (first.now.anchor.x ≡ second.now.anchor.x) × (first.now.anchor.y ≡ second.now.anchor.y) }
@@ -74,7 +75,7 @@ fn is_doubled(joined: &[Waiting], from: &Waiting) -> bool
 }
 
 /// Keeps the links from one of these anchors, unless those from another of them are less. Ends of tracks often stand at the
-/// spot of another end; that is looked for only where it is far cheaper than to measure.
+/// point of another end; that is looked for only where it is far cheaper than to measure.
 fn draw_once(waiting: &mut [Waiting], joined: &[Waiting], from: &Waiting)
     ensures { (k : ℕ) (d : Waiting) → k < length waiting.new
         → IsTold joined.now from.now (slice_index_or waiting.old k d)
@@ -154,7 +155,7 @@ pub(crate) fn least(waiting: &[Waiting]) -> usize
     least
 }
 
-/// Whether the one that waits is of the group of the anchor and at its spot.
+/// Whether the one that waits is of the group of the anchor and at its point.
 fn leads(held: &Waiting, anchor: Anchor) -> bool
     ensures { IsTrue result → (held.now.anchor.group ≡ anchor.group)
         × (held.now.anchor.x ≡ anchor.x) × (held.now.anchor.y ≡ anchor.y) }

@@ -6,8 +6,8 @@ use Rattle.rule_pick.specs.CopperDemands.{ItAsksAtMost}
 use Rattle.pair_check.specs.declared.found.Single.{Single}
 use Rattle.pair_check.specs.Coppers.{are_copper}
 
--- two pieces of copper whose boxes are farther apart than what is asked of any two, or of these: boxes are half nanometres, so it
--- counts twice
+-- two pieces of copper whose boxes are farther apart than what is asked of any two, and than the two ask for themselves: boxes are in
+-- half nanometres, so it counts twice
 pub record AreBoxesApart (least : ℤ) (a b : Entry) (one other : Single) : Type 0 where
   pub copper : are_copper one.item.now other.item.now ≡ true
   pub most : ℤ

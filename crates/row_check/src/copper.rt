@@ -48,7 +48,8 @@ fn are_clear(a: Bounds, b: Bounds, most: Length) -> bool
     is_above(b, a, most)
 }
 
-/// Whether two pieces of copper are farther apart than rules and the board ask of any two, and they themselves. Only a yes is sure.
+/// Whether the boxes of two pieces of copper lie farther apart than `asked`, which is the most that the rules and the board ask of any
+/// two, and than the two ask for themselves. That they do is sure; `false` says nothing.
 pub(crate) fn are_apart(
     asked: Length,
     first: &Entry,

@@ -152,7 +152,7 @@ is_other clause = is_other_name (name_at clause)
 abbrev pub is_own : Tree → Bool
 is_own clause = is_constraint clause && not (is_other clause)
 
--- the rule has no constraints, or not all of them have other names
+-- the rule has no constraint, or one whose name is that of a kind
 abbrev pub is_asked : List Tree → Bool
 is_asked ts = not (list_any is_constraint ts) || list_any is_own ts
 
@@ -165,7 +165,7 @@ counting ts = firsts (filter (is_heard (is_asked ts)) ts)
 
 -- ---- forms
 
--- a rule, and the names of the constraints in it that no rule may have
+-- a rule, and of its constraints the names that are those of no kind
 pub record Read : Type 0 where
   pub rule : PlainRule
   pub others : List (List ℕ)

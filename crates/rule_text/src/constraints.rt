@@ -155,7 +155,7 @@ fn is_constraint(clause: Node<'_, '_>) -> bool
     has_head(clause, b"constraint")
 }
 
-/// Whether a rule's condition is asked: it has no constraints, or not all of them have other names.
+/// Whether a rule's condition is read: the rule has no constraint, or one whose name is that of a kind.
 pub(crate) fn is_asked(form: Node<'_, '_>) -> bool
     ensures { result ≡ is_asked (clauses (tree_of form.entry)) }
 {

@@ -8,7 +8,7 @@ ghost use Rattle.rule_text.specs.RuleText.{RulesSays};
 
 use sexpr_read::laws::one_tree;
 
-/// No text says two things.
+/// The text of a rule file says one thing at most: its rules, or why there are none.
 pub fn one_reading()
     ensures { (text : List ℕ) (a b : Result PlainRules RuleError) → RulesSays text a
         → RulesSays text b
@@ -25,7 +25,7 @@ fn one_reading_here()
     one_tree();
 }
 
-/// No list of rules says two things.
+/// A list of rules in a text says one thing at most: its rules, or why there are none.
 pub fn one_list_reading()
     ensures { (text : List ℕ) (by : ℕ) (a b : Result PlainRules RuleError) → SaysList text by a
         → SaysList text by b → a ≡ b }

@@ -1,4 +1,4 @@
-//! Notes on constraints that no rule may have.
+//! Constraints whose name is that of no kind: they are told as not checked.
 
 ghost use Rattle.std.specs.Prelude.{◌≡◌, map, IfOk};
 ghost use Rattle.rule_text.specs.RuleValues.{plain_note};
@@ -7,7 +7,7 @@ use drc_io::Name;
 use plain_types::Listed;
 use std::alloc::AllocError;
 
-/// A constraint of another name than that of a kind.
+/// A constraint whose name is that of no kind.
 #[derive(Debug, Drop)]
 pub struct RuleNote {
     /// The number of its rule, from 0.

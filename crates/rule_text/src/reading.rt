@@ -288,7 +288,7 @@ fn is_version(form: Node<'_, '_>) -> bool
     }
 }
 
-/// The rules of these forms, or the refusal where there is none.
+/// The rules of these forms: behind the version, which comes first. `none` is the refusal of a text without a form.
 #[tactic(auto, using(crate::proofs::InOrder::rules_in_order, crate::proofs::Shortness::first_short, crate::proofs::Shortness::rest_short), unfolding(crate::specs::RulesOf::rules_of))]
 pub(crate) fn rules_of(
     alloc: Global,

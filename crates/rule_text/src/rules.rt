@@ -55,7 +55,7 @@ impl RuleList {
     }
 }
 
-/// The rules of a file, and the constraints in it that no rule may have.
+/// The rules of a file, and its constraints whose name is that of no kind: they are told as not checked.
 #[derive(Drop)]
 pub struct Rules {
     pub rules: RuleList,

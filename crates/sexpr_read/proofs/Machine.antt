@@ -1,4 +1,4 @@
--- Where the fronts of a text end, and that no fault comes on the way over a gap, a word, a string or a list.
+-- Where the prefixes of a text end, and that no fault comes on the way over a gap, a word, a string or a list.
 use Rattle.std.proofs.Common.{◌≡◌, ℕ, zero, suc, ◌<◌, Bool, true, false, ◌==◌, None, refl, arith}
 use Rattle.sexpr_read.specs.declared.bytes.ByteClass.{ByteClass}
 use Rattle.sexpr_read.specs.declared.bytes.ByteClass.TheVariants.{Space, Open, Close, Quote, Backslash, Plain}

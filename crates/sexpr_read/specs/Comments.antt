@@ -5,7 +5,7 @@ use Rattle.sexpr_read.specs.declared.bytes.ByteClass.{ByteClass}
 use Rattle.sexpr_read.specs.declared.bytes.ByteClass.TheVariants.{Space, Open, Close, Quote, Backslash, Plain}
 use Rattle.sexpr_read.specs.ByteClasses.{sign_of}
 
--- where a front of a text ends: behind nothing but space and tab of its line, behind another sign of it,
+-- where a prefix of a text ends: behind nothing but space and tab of its line, behind another sign of it,
 -- in a string, in one after a backslash, or in a comment
 pub data Line : Type 0 where
   fresh : Line
@@ -42,7 +42,7 @@ line_beyond b Open comment = comment
 line_beyond b Close comment = comment
 line_beyond b Backslash comment = comment
 
--- where the front of a length ends
+-- where the prefix of this length ends
 unfoldable pub line_at : List ℕ → ℕ → Line
 line_at text zero = fresh
 line_at text (suc place) = line_beyond (slice_index_or text place 0x20) (sign_of text place) (line_at text place)

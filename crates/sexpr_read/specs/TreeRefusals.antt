@@ -10,7 +10,7 @@ use Rattle.sexpr_read.specs.declared.place.TextError.TheVariants.{NotUtf8, Close
 use Rattle.sexpr_read.specs.ByteClasses.{sign_of}
 use Rattle.sexpr_read.specs.Comments.{shown}
 
--- where a front of a text ends: outside strings, in one, or in one after a backslash, with so many open lists
+-- where a prefix of a text ends: outside strings, in one, or in one after a backslash, with so many open lists
 pub data Where : Type 0 where
   outside : ℕ → Where
   in_string : ℕ → Where
@@ -32,7 +32,7 @@ beyond Space (in_string depth) = in_string depth
 beyond Plain (in_string depth) = in_string depth
 beyond _ (after_backslash depth) = in_string depth
 
--- where the front of a length ends
+-- where the prefix of this length ends
 unfoldable pub where_at : (ℕ → ByteClass) → ℕ → Where
 where_at sign zero = outside 0
 where_at sign (suc place) = beyond (sign place) (where_at sign place)

@@ -22,6 +22,7 @@ fn gap_of(alloc: Global, name: &str, a: &[i64], b: &[i64], most: &[i64]) -> Resu
     })
 }
 
+/// The four sides of a box, as a case writes them.
 fn sides(alloc: Global, bounds: Bounds) -> Result<Vec<u8>, Fault> {
     let Bounds {
         left,
@@ -53,6 +54,7 @@ fn corners(alloc: Global, part: &[i64]) -> Result<Vec<u8>, Fault> {
     Ok(out)
 }
 
+/// The sides of the least box around a shape.
 fn bounds(alloc: Global, shape: &Shape) -> Result<Vec<u8>, Fault> {
     crosses_threads(shape);
     sides(alloc, shape.bounds())

@@ -13,6 +13,7 @@ module _ {P : Type 0} (tiles : ℕ) where
   abbrev pub IsOwner : ℕ → Stealer ℕ Global Hand P → Worker ℕ Global Hand P → Type 0
   IsOwner parts s o = (worker_deque o ≡ stealer_deque s) × (worker_flavor o ≡ 0) × (stealer_flavor s ≡ 0) × ((worker_view o).parts ≡ parts) × ((worker_view o).limit ≤ tiles)
 
+  -- each deque has its owner, with so many of its parts
   abbrev pub AreOwners : ℕ → List (Stealer ℕ Global Hand P) → List (Worker ℕ Global Hand P) → Type 0
   AreOwners parts others owners = (length owners ≡ length others) × ((k : ℕ) (s : Stealer ℕ Global Hand P) (o : Worker ℕ Global Hand P) → k < length owners → IsOwner parts (slice_index_or others k s) (slice_index_or owners k o))
 

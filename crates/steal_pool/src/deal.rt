@@ -30,7 +30,7 @@ pub(crate) fn deques(
     Ok((others, owners))
 }
 
-/// Gives each number below `tiles` to the worker that it leaves over, rising.
+/// Deals the numbers below `tiles` to the deques in turn, rising: number `n` to the deque `n % others.len()`.
 pub(crate) fn give_out(others: &[Other], owners: &mut [Own], tiles: u32) -> Result<(), AllocError>
     requires some { 0 < length others.now }
     requires owners { AreOwners 0 1024 others.now owners.old }

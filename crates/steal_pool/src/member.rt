@@ -124,7 +124,8 @@ pub(crate) struct Member<X> {
 fn run_member<T: TileWork, G: Gate>(job: &Job<'_, T, G>, member: &mut Member<T::Out>)
     requires ready { T.ready job.now.work.now }
     requires count { job.now.tiles ≤ T.count job.now.work.now }
-    requires member { IsReady (T.gives job.now.work.now) job.now.tiles job.now.others.now member.old }
+    requires member { IsReady
+        (T.gives job.now.work.now) job.now.tiles job.now.others.now member.old }
     ensures { HasRun (T.gives job.now.work.now) job.now.tiles job.now.others.now member.old
         member.new }
 {

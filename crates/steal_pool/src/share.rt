@@ -17,7 +17,7 @@ pub(crate) struct Share<X> {
 }
 
 impl<X: Drop> Share<X> {
-    /// No number is taken. There is room in the hand for all numbers.
+    /// A share in which no number is taken yet, with room for all of them.
     pub(crate) fn new(alloc: Global, tiles: u32) -> Result<Share<X>, AllocError>
         ensures { IfOk result (λ s. (s.hand.items ≡ []) × (s.batch.items ≡ []) × (s.failed ≡ false)
             × (tiles ≤ vec_capacity s.hand)) }
