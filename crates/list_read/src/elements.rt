@@ -23,9 +23,10 @@ pub fn element<'d, 't>(node: Node<'d, 't>, head: &[u8]) -> Option<Node<'d, 't>>
     None
 }
 
-/// Whether the list gives an item its name.
+/// Whether the list gives an item its name: it begins with `tstamp`, or with `uuid` as KiCad 8 writes it.
+#[inline]
 #[tactic(auto, unfolding(crate::specs::NamedElements::is_naming))]
-fn is_naming(node: Node<'_, '_>) -> bool
+pub fn is_naming(node: Node<'_, '_>) -> bool
     ensures { result ≡ is_naming (tree_of node.entry) }
 {
     has_head(node, b"tstamp") || has_head(node, b"uuid")

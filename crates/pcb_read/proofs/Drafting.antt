@@ -77,11 +77,17 @@ module _ (board : PlainBoard) where
 -- ---- five steps, of which the last is the net
 
 module _ {A B C D : Type 0} where
-  abbrev drafted : Result A BoardError → Result B BoardError → Result C BoardError → Result D BoardError → Result ℕ BoardError → (A → B → C → D → ℕ → Draft) → Result Draft BoardError
+  abbrev pub drafted : Result A BoardError → Result B BoardError → Result C BoardError → Result D BoardError → Result ℕ BoardError → (A → B → C → D → ℕ → Draft) → Result Draft BoardError
   drafted a b c d given make = a >>= λ x. b >>= λ y. c >>= λ z. d >>= λ w. given >>= λ net. Ok (make x y z w net)
 
   abbrev read : Result A BoardError → Result B BoardError → Result C BoardError → Result D BoardError → Result ℕ BoardError → (A → B → C → D → ℕ → Result Item BoardError) → Result Item BoardError
   read a b c d net give = a >>= λ x. b >>= λ y. c >>= λ z. d >>= λ w. net >>= λ n. give x y z w n
+
+  -- where each step gives something, the draft is made of it
+  pub all_drafted : (a : Result A BoardError) (b : Result B BoardError) (c : Result C BoardError) (d : Result D BoardError) (given : Result ℕ BoardError)
+      (make : A → B → C → D → ℕ → Draft) (x : A) (y : B) (z : C) (w : D) (n : ℕ)
+      → a ≡ Ok x → b ≡ Ok y → c ≡ Ok z → d ≡ Ok w → given ≡ Ok n → drafted a b c d given make ≡ Ok (make x y z w n)
+  all_drafted a b c d given make x y z w n first second third fourth net = rw first (rw second (rw third (rw fourth (rw net refl))))
 
   -- where all was drafted, the item is the draft's, or the net is refused
   on_by : (a : Result A BoardError) (b : Result B BoardError) (c : Result C BoardError) (d : Result D BoardError) (given net : Result ℕ BoardError)

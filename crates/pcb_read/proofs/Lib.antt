@@ -8,4 +8,5 @@ pub mod NearPads
 pub mod NearFootprints
 pub mod NearLists
 pub mod Drafting
+pub mod UsualOrder
 pub mod Slotting

@@ -10,4 +10,5 @@ pub mod UnitSpans
 pub mod BoardRefusalPlaces
 pub mod ShortTrees
 pub mod Drafts
+pub mod UsualLists
 pub mod PartSlots

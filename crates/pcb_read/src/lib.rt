@@ -26,6 +26,7 @@ mod slot;
 mod sorts;
 mod spans;
 mod tracks;
+mod usual;
 
 use crate::laws::one_reading;
 use crate::root::{board_by, board_of};

@@ -10,6 +10,7 @@ ghost use Rattle.pcb_read.specs.Drafts.{track_draft, via_draft};
 
 use crate::drafts::{Draft, Form, item_on, net_number};
 use crate::items::ViaForm;
+use crate::usual::{usual_track, usual_via};
 use board_items::{Board, BoardError, Item};
 use copper_layers::LayerSet;
 use list_read::{Wanted, find_elements, has_words, pick};
@@ -39,6 +40,9 @@ pub(crate) fn track_draft(
     ensures read { Gives result (track_draft copper (tree_of node.entry)) }
     ensures on { IfOk result (λ draft. IsTrue (is_within draft.layers copper)) }
 {
+    if let Some(usual) = usual_track(copper, node) {
+        return usual.draft(alloc);
+    }
     let mut found = [None; 6];
     find_elements(node, &SEGMENT, &mut found);
     let a = raw_point_of(node, pick(&found, 0))?;
@@ -93,6 +97,9 @@ pub(crate) fn via_draft(
     ensures read { Gives result (via_draft copper (tree_of node.entry)) }
     ensures on { IfOk result (λ draft. IsTrue (is_within draft.layers copper)) }
 {
+    if let Some(usual) = usual_via(copper, node) {
+        return usual.draft(alloc);
+    }
     let mut found = [None; 6];
     find_elements(node, &VIA, &mut found);
     let at = raw_point_of(node, pick(&found, 0))?;
