@@ -4,8 +4,9 @@
   tools/gate.py run LOG [COMMAND ..]   runs the command (rt ci, if none is given) and notes in LOG what each process of the prover took;
                                        the status is the command's
   tools/gate.py watch LOG              notes the same of whatever runs on this machine, until it is stopped
-  tools/gate.py write LOG              writes the table and the sums in docs/GATE.md from such a log
-  tools/gate.py tell LOG               prints them
+  tools/gate.py write LOG [LOG ..]     writes the table and the sums in docs/GATE.md from such logs; a task that several of them have
+                                       counts as in the last one
+  tools/gate.py tell LOG [LOG ..]      prints them
 
 What a check reckons with is the memory that rt ci keeps free for it before it starts: the first part follows from the lines of the crate
 and of those below it, the second from the libraries of the kit that these use. Seconds are those of the processor, user and system. They are read from /proc every quarter of a second, so a process loses at most
@@ -28,6 +29,8 @@ import sources
 PAGE = 'docs/GATE.md'
 BEGIN, END = '<!-- Written by tools/gate.py: -->', '<!-- Up to here. -->'
 EVERY = 0.25
+# How the names of the prover's processes begin: a check by several jobs has copies of itself, named by their thread.
+PROVER = ('rattle', 'antt', 'clang')
 # What rt ci reckons with for a check, in GB: for each, for a line of code, of definitions or proofs, and of code below; then a byte of
 # the kit's libraries, and the most for all of these.
 START, CODE, PROOF, BELOW = 1, 1e-3, 2e-4, 8e-5
@@ -70,7 +73,7 @@ def seen_now(top):
     for process in filter(str.isdigit, os.listdir('/proc')):
         try:
             with open('/proc/%s/comm' % process) as file:
-                if file.read().strip() not in ('rattle', 'clang'):
+                if not file.read().startswith(PROVER):
                     continue
             words, folder = words_of(process), os.readlink('/proc/%s/cwd' % process)
             task = task_of(words, folder)
@@ -180,13 +183,25 @@ def longest_chain(seconds):
     return max(best.values())
 
 
-def table(log):
-    with open(log, encoding='utf-8') as file:
-        run = json.load(file)
-    seconds, memory = collections.Counter(), collections.Counter()
-    for crate, kind, took, most in run['tasks']:
-        seconds[crate, kind] += took
-        memory[crate] = max(memory[crate], most)
+def joined(logs):
+    """of several runs, in their order: the machine of the last, the time of all, its last line, and of each task the seconds and the
+    memory of the last run that has it"""
+    seconds, memory, wall = collections.Counter(), collections.Counter(), 0
+    for log in logs:
+        with open(log, encoding='utf-8') as file:
+            run = json.load(file)
+        wall += run['wall']
+        for task in {tuple(task[:2]) for task in run['tasks']}:
+            seconds[task] = memory[task] = 0
+        for crate, kind, took, most in run['tasks']:
+            seconds[crate, kind] += took
+            memory[crate, kind] = max(memory[crate, kind], most)
+    return run['machine'], wall, run['last'], seconds, memory
+
+
+def table(logs):
+    on, wall, last, seconds, memory = joined(logs)
+    most_of = lambda crate: max((most for (other, _), most in memory.items() if other == crate), default=0)
     cell = lambda crate, *kinds: '%.0f' % sum(seconds[crate, kind] for kind in kinds) if any(seconds[crate, kind] >= 0.5 for kind in kinds) else '-'
     memory_for = reckoned()
     rows = [
@@ -195,16 +210,15 @@ def table(log):
     for crate, _ in sources.crates():
         rows.append('| ' + ' | '.join(str(it) for it in (
             crate, lines_of(crate, 'src', '.rt'), lines_of(crate, 'specs', '.antt'), lines_of(crate, 'proofs', '.antt'), edits_of(crate),
-            cell(crate, 'proof', 'tests'), cell(crate, 'building'), cell(crate, 'edits'), memory[crate] or '-',
+            cell(crate, 'proof', 'tests'), cell(crate, 'building'), cell(crate, 'edits'), most_of(crate) or '-',
             '%.1f + %.1f' % memory_for[crate])) + ' |')
     of = lambda *kinds: sum(took for (_, kind), took in seconds.items() if kind in kinds) / 60
     chain, names = longest_chain(seconds)
-    on = run['machine']
     text = [
         'Measured with `%s` on %d processors (%s) with %d GB%s%s.' % (
             on['kit'], on['processors'], on['model'], on['memory'],
-            ', in %d minutes by the clock' % (run['wall'] / 60) if run['wall'] else '',
-            '; its last line was `%s`' % run['last'] if run['last'] else ''),
+            ', in %d minutes by the clock' % (wall / 60) if wall else '',
+            '; the last line was `%s`' % last if last else ''),
         '',
         *rows,
         '',
@@ -215,14 +229,14 @@ def table(log):
     return '\n'.join(text)
 
 
-def write(log):
+def write(logs):
     page = sources.read(PAGE)
     if BEGIN not in page or END not in page:
         sys.exit('gate.py: %s lacks the lines between which the table stands' % PAGE)
     before, _, rest = page.partition(BEGIN)
     _, _, after = rest.partition(END)
     with open(os.path.join(sources.ROOT, PAGE), 'w', encoding='utf-8') as file:
-        file.write(before + BEGIN + '\n' + table(log) + '\n' + END + after)
+        file.write(before + BEGIN + '\n' + table(logs) + '\n' + END + after)
 
 
 def main(words):
@@ -231,8 +245,8 @@ def main(words):
     if words[0] in ('run', 'watch'):
         return watch(words[1], (words[2:] or ['rt', 'ci']) if words[0] == 'run' else None)
     if words[0] == 'write':
-        return write(words[1])
-    print(table(words[1]))
+        return write(words[1:])
+    print(table(words[1:]))
     return 0
 
 
