@@ -19,7 +19,7 @@ PATH = 'docs/CONTRACTS.md'
 PROVED = 'docs/PROVED.md'
 BEGIN, END = '<!-- Written by tools/contracts.py: the %s -->', '<!-- Up to here. -->'
 # The statement and what it uses, each by the module that defines it.
-STATEMENT = tuple(('drc_run', 'RunEndings', name) for name in ('Promises', 'Whole', 'Prefix', 'PrefixOf', 'Unread', 'UnreadPrefix')) + (
+STATEMENT = tuple(('run_output', 'RunEndings', name) for name in ('Promises', 'Whole', 'Prefix', 'PrefixOf', 'Unread', 'UnreadPrefix')) + (
     ('drc_io', 'Sinks', 'AppendsPrefix'), ('drc_io', 'FaultCounts', 'Rose'))
 # It stands in the library of the toolchain, and is told here as it is there.
 APPENDS = ['Appends None new bytes = \u22a4', 'Appends (Some xs) None bytes = \u22a5', 'Appends (Some xs) (Some ys) bytes = ys \u2261 xs ++ bytes']

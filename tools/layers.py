@@ -16,7 +16,7 @@ import sources
 
 BEGIN, END = '<!-- Written by tools/layers.py: -->', '<!-- Up to here. -->'
 NOTIONS = 'tools/notions.txt'
-STATEMENT = ('drc_run', 'RunEndings')
+STATEMENT = ('run_output', 'RunEndings')
 
 
 def cell(text):

@@ -1,22 +1,13 @@
 //! Calls of crates beneath the program. Each takes two of the case's files: a board, and a script or a rule file.
 
-use crate::{alike, pairs, stopping, surveys, trying, writing};
+use crate::pairs;
 use case_gates::Turns;
 use case_lines::Outcome;
 use case_reader::{Given, Reason};
+use session_cases::{LIMIT, Texts};
 use std::alloc::{AllocError, AllocGlobal};
 use std::io::Print;
 use std::thread::Threads;
-
-/// The texts of the two files.
-#[derive(Clone, Copy)]
-pub struct Texts<'a> {
-    pub board: &'a [u8],
-    pub other: &'a [u8],
-}
-
-/// The most bytes of a text.
-pub const LIMIT: usize = 33_554_432;
 
 /// The text of a file that is named, where it is not too long.
 fn text_of<'a>(given: &'a Given, name: Option<&String>) -> Result<&'a [u8], Reason> {
@@ -53,12 +44,7 @@ fn told<R: Threads + Sync + AllocGlobal + Print>(
     let name = given.words.first().ok_or(Reason::NoCall)?;
     match name.as_str() {
         "pairs" => pairs::told(rt, texts, gate),
-        "apply" => stopping::told(rt, texts),
-        "alike" => alike::told(rt, texts, gate),
-        "trial" => trying::told(rt, texts, workers, gate),
-        "survey" => surveys::told(rt, texts, workers, gate),
-        "write" => writing::told(rt, given, texts),
-        _ => Err(Reason::NoCall),
+        name => session_cases::answer(rt, name, given, texts, workers, gate),
     }
 }
 

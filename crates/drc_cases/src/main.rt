@@ -5,18 +5,9 @@
 //! that cannot be read counts as differing, and its case is not tried. `docs/CASES.md` has the format.
 #![tactic(auto)]
 
-mod alike;
-mod all_pairs;
-mod answers;
 mod calls;
-mod nets;
-mod opening;
 mod pairs;
 mod runs;
-mod stopping;
-mod surveys;
-mod trying;
-mod writing;
 
 use case_lines::{Counts, Outcome, difference};
 use case_reader::{

@@ -24,7 +24,7 @@ use Rattle.run_texts.specs.declared.texts.Which.TheVariants.{Board, Project, Rul
 use Rattle.plain_types.specs.Limits.{most_trials}
 use Rattle.plain_types.specs.Reasons.{PlainReason}
 use Rattle.run_texts.specs.NamedTexts.{Named, texts_of, Value, a_board, a_project, a_rules, a_script, some_steps, Said, accepted, refused, reason_text, IsRefusalText, too_many, RefusesScript, RefusesTrials, ReaderSays, TextSays, longer, read, AreBytesOf, SourceSays, AreAccepted, IsReached, a_text}
-use Rattle.drc_run.specs.Output.{Output, commands_among, steps_among, IsOpenedBy, is_short, IsTold, IsToldSoFar, AreStepsTold, AreStepsToldSoFar, AreTrialsTold, AreFirstTrials, IsTextOf, IsBegunBy, IsOutputFor, unclear, stopped, given, IsBegunFor, whole, begun_by, usage, refusal, AreRowsTold, IsBoardWritten}
+use Rattle.run_output.specs.Output.{Output, commands_among, steps_among, IsOpenedBy, is_short, IsTold, IsToldSoFar, AreStepsTold, AreStepsToldSoFar, AreTrialsTold, AreFirstTrials, IsTextOf, IsBegunBy, IsOutputFor, unclear, stopped, given, IsBegunFor, whole, begun_by, usage, refusal, AreRowsTold, IsBoardWritten}
 use Rattle.drc_run.proofs.OneProject.{one_project}
 
 -- ---- what a text says

@@ -6,9 +6,9 @@ use Rattle.pair_check.specs.Rows.{Checked, AreRows}
 use Rattle.drc_rows.specs.Report.{rows_text}
 use Rattle.drc_rows.specs.ReportOf.{first_line}
 use Rattle.drc_state.specs.States.{State, checked_in}
-use Rattle.drc_run.specs.Reports.{IsOpening}
-use Rattle.drc_run.specs.Output.{Output, IsStatusOf, status_of, IsToldBy, IsToldSoFarBy, AreRowsTold}
-use Rattle.drc_run.proofs.TurnLists.{IsOne, one_text, prefix_of_all}
+use Rattle.run_output.specs.Reports.{IsOpening}
+use Rattle.run_output.specs.Output.{Output, IsStatusOf, status_of, IsToldBy, IsToldSoFarBy, AreRowsTold}
+use Rattle.run_output.proofs.TurnLists.{IsOne, one_text, prefix_of_all}
 
 module _ (one_list : (c : Checked) (a b : List PlainRow) → AreRows c a → AreRows c b → a ≡ b)
     (one_opening : (short : Bool) (s : State) (xs ys : List ℕ) → IsOpening short s xs → IsOpening short s ys → xs ≡ ys)

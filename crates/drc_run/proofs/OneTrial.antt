@@ -8,10 +8,10 @@ use Rattle.drc_state.specs.declared.error.EditError.{EditError}
 use Rattle.drc_state.specs.States.{State, checked_in}
 use Rattle.drc_state.specs.CommandSteps.{Answers}
 use Rattle.what_if.specs.Trials.{IsDifference, IsSurvey}
-use Rattle.drc_run.specs.Reports.{refused_trial, why_edit}
-use Rattle.drc_run.specs.CommandOutputs.{marked_lines, IsTrialText, or_some, IsTrial, untried, tried}
-use Rattle.drc_run.specs.Output.{Output, IsLeastLine, status_if, AreTrialsTold, AreFirstTrials}
-use Rattle.drc_run.proofs.TurnLists.{IsOne, one_text, prefix_of_all}
+use Rattle.run_output.specs.Reports.{refused_trial, why_edit}
+use Rattle.run_output.specs.CommandOutputs.{marked_lines, IsTrialText, or_some, IsTrial, untried, tried}
+use Rattle.run_output.specs.Output.{Output, IsLeastLine, status_if, AreTrialsTold, AreFirstTrials}
+use Rattle.run_output.proofs.TurnLists.{IsOne, one_text, prefix_of_all}
 
 -- the last line
 some_once : (m n : ℕ) → Some (Some m) ≡ Some (Some n) → m ≡ n

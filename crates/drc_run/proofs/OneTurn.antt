@@ -12,9 +12,9 @@ use Rattle.drc_state.specs.CommandSteps.{is_rules, Answers}
 use Rattle.drc_state.specs.Recheck.{AreHeld, AreRechecked, IsHeldCount}
 use Rattle.undo_log.specs.declared.error.HistoryError.{HistoryError}
 use Rattle.undo_log.specs.Past.{Past, StepAnswers, does_replace}
-use Rattle.drc_run.specs.Reports.{AreFindings, IsReport, IsOpening, report_text, refused_line, why_edit, why_step}
-use Rattle.drc_run.specs.CommandOutputs.{IsTurn, refused, made, IsStepTurn, unstepped, stepped}
-use Rattle.drc_run.proofs.TurnLists.{IsOne}
+use Rattle.run_output.specs.Reports.{AreFindings, IsReport, IsOpening, report_text, refused_line, why_edit, why_step}
+use Rattle.run_output.specs.CommandOutputs.{IsTurn, refused, made, IsStepTurn, unstepped, stepped}
+use Rattle.run_output.proofs.TurnLists.{IsOne}
 
 module _ (one_list : (c : Checked) (a b : List PlainRow) → AreRows c a → AreRows c b → a ≡ b)
     (one_parts : (board : PlainBoard) (a b : List PlainNetPart) → AreParts board a → AreParts board b → a ≡ b)

@@ -2,7 +2,7 @@
 use Rattle.std.proofs.Common.{◌≡◌, ◌∙◌, ap, sym, ℕ, List}
 use Rattle.edit_script.specs.Commands.{PlainCommand}
 use Rattle.board_write.specs.WriteResults.{Outcome}
-use Rattle.drc_run.specs.Output.{Output, status_after, IsBoardWritten}
+use Rattle.run_output.specs.Output.{Output, status_after, IsBoardWritten}
 
 module _ (one_outcome : (text : List ℕ) (commands : List PlainCommand) (m n : ℕ) (a : Outcome text commands m) (b : Outcome text commands n) → (m ≡ n) × (a.out ≡ b.out)) where
   pub one_written : (text : List ℕ) (commands : List PlainCommand) (a b : Output) → IsBoardWritten text commands a → IsBoardWritten text commands b → a ≡ b

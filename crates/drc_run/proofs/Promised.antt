@@ -8,11 +8,11 @@ use denote.Enum.Declared.{tag_of}
 use Rattle.run_words.specs.Calls.{PlainCall}
 use Rattle.run_texts.specs.declared.texts.Which.{Which}
 use Rattle.run_texts.specs.NamedTexts.{ReadFails}
-use Rattle.drc_run.specs.contracts.status.Status.{the_type}
-use Rattle.drc_run.specs.declared.status.Status.{Status}
-use Rattle.drc_run.specs.declared.status.Status.TheVariants.{Clean, Rows, Usage, Refused, ReadFault, WriteFault, OutOfMemory}
-use Rattle.drc_run.specs.Output.{Output, IsOutputFor, IsBegunFor}
-use Rattle.drc_run.specs.RunEndings.{Whole, Prefix, PrefixOf, Unread, UnreadPrefix, Ends, EndsFor, Promises}
+use Rattle.run_output.specs.contracts.status.Status.{the_type}
+use Rattle.run_output.specs.declared.status.Status.{Status}
+use Rattle.run_output.specs.declared.status.Status.TheVariants.{Clean, Rows, Usage, Refused, ReadFault, WriteFault, OutOfMemory}
+use Rattle.run_output.specs.Output.{Output, IsOutputFor, IsBegunFor}
+use Rattle.run_output.specs.RunEndings.{Whole, Prefix, PrefixOf, Unread, UnreadPrefix, Ends, EndsFor, Promises}
 
 module _ (IsIt : Output → Type 0) (IsBegun : List ℕ → Type 0) (Fault : Which → Type 0) (old new : Option (List ℕ)) where
   small : (s : Status) → tag_of the_type s ≤ 6

@@ -13,11 +13,11 @@ use Rattle.run_texts.specs.declared.texts.Which.TheVariants.{Text, Script}
 use Rattle.run_texts.specs.NamedTexts.{named, texts_of, Value, a_text, a_script, accepted, SourceSays, AreAccepted, ReadFails}
 use Rattle.run_texts.specs.RunFindings.{StopsText, StopsTexts}
 use Rattle.run_texts.proofs.Accepting.{reached, stops_at, later}
-use Rattle.drc_run.specs.declared.status.Status.{Status}
-use Rattle.drc_run.specs.declared.status.Status.TheVariants.{Clean, Rows, Usage, Refused, ReadFault, WriteFault, OutOfMemory}
-use Rattle.drc_run.specs.Output.{Output, status_after, IsBoardWritten, IsOutputFor, given, IsBegunFor, whole}
-use Rattle.drc_run.specs.RunEndings.{Whole, Ends, EndsFor, IsTextOfOne, number_of}
-use Rattle.drc_run.proofs.Written.{ends_as, its_text}
+use Rattle.run_output.specs.declared.status.Status.{Status}
+use Rattle.run_output.specs.declared.status.Status.TheVariants.{Clean, Rows, Usage, Refused, ReadFault, WriteFault, OutOfMemory}
+use Rattle.run_output.specs.Output.{Output, status_after, IsBoardWritten, IsOutputFor, given, IsBegunFor, whole}
+use Rattle.run_output.specs.RunEndings.{Whole, Ends, EndsFor, IsTextOfOne, number_of}
+use Rattle.run_output.proofs.Written.{ends_as, its_text}
 
 -- ---- the status
 

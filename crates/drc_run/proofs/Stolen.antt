@@ -10,12 +10,12 @@ use Rattle.pair_check.specs.PlainRow.{PlainRow}
 use Rattle.run_words.specs.Calls.{steal}
 use Rattle.run_texts.specs.NamedTexts.{texts_of, Value, a_board, AreAccepted, ReadFails}
 use Rattle.run_texts.specs.RunFindings.{AreOpened, only_board}
-use Rattle.drc_run.specs.declared.status.Status.{Status}
-use Rattle.drc_run.specs.declared.status.Status.TheVariants.{WriteFault}
-use Rattle.drc_run.specs.Output.{Output, IsOpenedBy, AreRowsTold, status_of, IsOutputFor, given, IsBegunFor, whole}
-use Rattle.drc_run.specs.RunEndings.{Ends, EndsFor, IsTextOfOne, number_of}
-use Rattle.drc_run.proofs.Written.{ends_as}
-use Rattle.drc_run.proofs.Opening.{same_classes, same_rules}
+use Rattle.run_output.specs.declared.status.Status.{Status}
+use Rattle.run_output.specs.declared.status.Status.TheVariants.{WriteFault}
+use Rattle.run_output.specs.Output.{Output, IsOpenedBy, AreRowsTold, status_of, IsOutputFor, given, IsBegunFor, whole}
+use Rattle.run_output.specs.RunEndings.{Ends, EndsFor, IsTextOfOne, number_of}
+use Rattle.run_output.proofs.Written.{ends_as}
+use Rattle.run_output.proofs.Opening.{same_classes, same_rules}
 
 module _ (told : Option (List (List ℕ × List ℕ))) (board : List ℕ) (workers : ℕ) (opening : State) (are : AreOpened told (only_board board) opening) where
   abbrev values : List Value

@@ -1,9 +1,1 @@
 pub mod CommandLine
-pub mod Reports
-pub mod Lines
-pub mod CommandOutputs
-pub mod Output
-pub mod RunEndings
-pub mod RefusalLines
-pub mod TrialResults
-pub mod RunResults

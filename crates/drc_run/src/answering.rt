@@ -4,11 +4,11 @@ ghost use Rattle.std.specs.Prelude.{◌≡◌, IfOk, OnErr, MatchResult};
 ghost use Rattle.std.specs.Process.{exit_status};
 ghost use Rattle.run_words.specs.Calls.{words_of};
 ghost use Rattle.drc_run.specs.CommandLine.{call_of_line, words_after_name};
-ghost use Rattle.drc_run.specs.RunEndings.{Promises};
+ghost use Rattle.run_output.specs.RunEndings.{Promises};
 
 use crate::run_all;
-use crate::status::Status;
 use drc_io::{Shelf, Sink};
+use run_output::Status;
 use std::alloc::{AllocError, Global};
 use std::process::ExitCode;
 use std::thread::Threads;

@@ -2,7 +2,7 @@
 
 ghost use Rattle.std.specs.Prelude.{◌≡◌, ◌++◌, ℕ, List, Some};
 ghost use Rattle.run_words.specs.Calls.{PlainCall};
-ghost use Rattle.drc_run.specs.Output.{Output, IsOutputFor, IsBegunFor};
+ghost use Rattle.run_output.specs.Output.{Output, IsOutputFor, IsBegunFor};
 
 use board_write::laws::one_outcome;
 use drc_state::laws::{one_answer, one_list_held, one_recheck};

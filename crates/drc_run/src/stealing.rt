@@ -5,14 +5,14 @@ ghost use Rattle.plain_types.specs.Limits.{IsWorkerCount};
 ghost use Rattle.drc_io.specs.FaultCounts.{Rose};
 ghost use Rattle.run_words.specs.Calls.{steal};
 ghost use Rattle.run_texts.specs.OpenedValues.{opened_in};
-ghost use Rattle.drc_run.specs.declared.status.Status.{Status};
-ghost use Rattle.drc_run.specs.Output.{AreRowsTold, status_of};
-ghost use Rattle.drc_run.specs.RunEndings.{Ends, EndsFor, IsTextOfOne, number_of};
+ghost use Rattle.run_output.specs.declared.status.Status.{Status};
+ghost use Rattle.run_output.specs.Output.{AreRowsTold, status_of};
+ghost use Rattle.run_output.specs.RunEndings.{Ends, EndsFor, IsTextOfOne, number_of};
 
-use crate::status::{Status, after, write_stop};
 use drc_io::{Shelf, Sink};
 use row_check::Row;
 use row_check::laws::{rows_have_items, rows_have_sources};
+use run_output::{Status, after, write_stop};
 use run_reports::write_rows_alone;
 use run_texts::{Texts, board_alone, texts_of};
 use run_words::Numbered;

@@ -1,7 +1,7 @@
 use Rattle.std.proofs.Common.{ap, sym, subst}
 use Rattle.run_words.specs.Calls.{PlainCall}
 use Rattle.run_words.specs.CallValues.{call_in}
-use Rattle.drc_run.specs.RunEndings.{EndsFor}
+use Rattle.run_output.specs.RunEndings.{EndsFor}
 use Rattle.drc_run.proofs.carry_out.Goals as goal
 
 pub returns-in-Nothing-clause-ends : goal.returns-in-Nothing-clause-ends

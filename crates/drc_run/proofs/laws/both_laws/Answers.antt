@@ -1,6 +1,6 @@
 use Rattle.std.proofs.Common.{false}
-use Rattle.drc_run.specs.CommandOutputs.{IsTurn, IsStepTurn}
-use Rattle.drc_run.specs.Output.{itself, present_of}
+use Rattle.run_output.specs.CommandOutputs.{IsTurn, IsStepTurn}
+use Rattle.run_output.specs.Output.{itself, present_of}
 use Rattle.undo_log.specs.Past.{begun}
 use Rattle.drc_run.proofs.OneOutput as once
 use Rattle.drc_run.proofs.OneTurn as turns

@@ -7,9 +7,9 @@ use Rattle.run_texts.specs.declared.texts.Which.TheVariants.{Text, Script}
 use Rattle.run_texts.specs.NamedTexts.{named, a_text, a_script, accepted, ReaderSays}
 use Rattle.run_texts.specs.RunFindings.{StopsReading, StopsText}
 use Rattle.run_texts.proofs.Accepting.{text_says, reading_stops}
-use Rattle.drc_run.specs.Output.{IsBoardWritten}
-use Rattle.drc_run.specs.RunEndings.{Ends, IsTextOfOne}
-use Rattle.drc_run.proofs.Ending.{line_ends}
+use Rattle.run_output.specs.Output.{IsBoardWritten}
+use Rattle.run_output.specs.RunEndings.{Ends, IsTextOfOne}
+use Rattle.run_output.proofs.Ending.{line_ends}
 use Rattle.drc_run.proofs.Rewrites.{text_stops, script_stops, rewritten_ends}
 use Rattle.drc_run.proofs.rewriting.rewrite.Goals as goal
 

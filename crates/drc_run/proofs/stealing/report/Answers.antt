@@ -6,9 +6,9 @@ use Rattle.drc_rows.specs.Report.{rows_text}
 use Rattle.drc_rows.specs.ReportOf.{first_line}
 use Rattle.stolen_rows.specs.Unruled.{unruled}
 use Rattle.run_texts.specs.OpenedValues.{opened_in}
-use Rattle.drc_run.specs.Output.{Output, AreRowsTold, status_of}
-use Rattle.drc_run.specs.RunEndings.{IsTextOfOne, number_of}
-use Rattle.drc_run.proofs.Written.{written, its_text, reporting}
+use Rattle.run_output.specs.Output.{Output, AreRowsTold, status_of}
+use Rattle.run_output.specs.RunEndings.{IsTextOfOne, number_of}
+use Rattle.run_output.proofs.Written.{written, its_text, reporting}
 use Rattle.drc_run.proofs.Stolen.{no_write_fault}
 use Rattle.drc_run.proofs.stealing.report.Goals as goal
 

@@ -3,7 +3,7 @@ use Rattle.run_words.specs.Calls.{Reading, check, steal}
 use Rattle.run_texts.specs.OpenedValues.{opened_in}
 use Rattle.run_texts.specs.RunFindings.{StopsTexts, AreOpened, only_board}
 use Rattle.run_texts.proofs.Accepting.{first_stops}
-use Rattle.drc_run.proofs.Ending.{line_ends}
+use Rattle.run_output.proofs.Ending.{line_ends}
 use Rattle.drc_run.proofs.Stolen.{rows_end}
 use Rattle.drc_run.proofs.stealing.steal.Goals as goal
 

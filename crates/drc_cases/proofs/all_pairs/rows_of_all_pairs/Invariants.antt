@@ -1,4 +1,0 @@
-use Rattle.drc_cases.proofs.all_pairs.rows_of_all_pairs.Given as goal
-
-abbrev pub ghosts-counted : goal.ghosts-counted
-ghosts-counted a = record { name = a.blank.name; parts = a.blank.parts }

@@ -1,0 +1,9 @@
+use Rattle.std.proofs.Common.{ap}
+use Rattle.plain_types.specs.Reasons.{PlainReason}
+use Rattle.drc_io.proofs.Writing.{Writes-text}
+use Rattle.run_texts.specs.NamedTexts.{reason_text}
+use Rattle.run_output.specs.Reports.{refused_line}
+use Rattle.run_output.proofs.lines.write_refused_step.Goals as goal
+
+pub returns : goal.returns
+returns g c = Writes-text _ _ _ _ _ _ _ (ap (λ (why : PlainReason). refused_line c.args.number (reason_text why)) c.step_told.ensures) c.write_refused_behind.ensures
